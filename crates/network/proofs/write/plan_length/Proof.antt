@@ -1,0 +1,23 @@
+-- `network::write::plan_length` meets its contract: a count of steps is a byte, so the length fits.
+-- Assumes nothing.
+use mathlib.Core.Path.{refl}
+use borrow.Author.Needs.{needs}
+use Rattle.network.specs.Writing.{planLength}
+use Rattle.network.proofs.write.plan_length.Statement.{statement}
+use Rattle.network.proofs.write.plan_length.Tie as tie
+
+cast-steps : tie.Need-cast-steps
+cast-steps c = search needs
+
+mul-result : tie.Need-mul-result
+mul-result c = search needs
+
+add-result : tie.Need-add-result
+add-result c = search needs
+
+returns : tie.Need-returns
+unfolding planLength
+returns c = refl
+
+pub plan-length-spec : {M : Type 1} → statement M
+plan-length-spec = tie.close (tie.spec cast-steps mul-result add-result returns)

@@ -1,0 +1,47 @@
+-- Document 01, "Refusals, in the order they are checked": the number of each rule, and the first broken of a list of rules.
+-- Assumes nothing.
+use mathlib.Core.Bool.{Bool, true, false}
+use mathlib.Core.List.{List, [], _∷_}
+use Prim.Native.Nat.{ℕ}
+use Rattle.network.specs.declared.refusal.Rule.{Rule}
+use Rattle.network.specs.declared.refusal.Rule.the-variants.{RecordMissing, KindOutOfPlace, WrongLength, RecordCutOff, HeadOutOfRange, UnknownFlags, BadEnds, UnknownForm, UnsuitedCost, TooManySteps, UnknownLink, UnknownState, ByteAfterEnd, NotATree, TwoSources, FaultWithSource, Overloaded, TooManyOperable, BufferTooShort}
+use Rattle.network.specs.declared.refusal.Verdict.{Verdict}
+use Rattle.network.specs.declared.refusal.Verdict.the-variants.{Kept, Broken}
+
+abbrev pub ruleNumber : Rule → ℕ
+ruleNumber RecordMissing = 1
+ruleNumber KindOutOfPlace = 2
+ruleNumber WrongLength = 3
+ruleNumber RecordCutOff = 4
+ruleNumber HeadOutOfRange = 5
+ruleNumber UnknownFlags = 6
+ruleNumber BadEnds = 7
+ruleNumber UnknownForm = 8
+ruleNumber UnsuitedCost = 9
+ruleNumber TooManySteps = 10
+ruleNumber UnknownLink = 11
+ruleNumber UnknownState = 12
+ruleNumber ByteAfterEnd = 13
+ruleNumber NotATree = 14
+ruleNumber TwoSources = 15
+ruleNumber FaultWithSource = 16
+ruleNumber Overloaded = 17
+ruleNumber TooManyOperable = 18
+ruleNumber BufferTooShort = 19
+
+-- a rule with the test that says whether it is broken
+pub record Check : Type 0 where
+  pub rule : Rule
+  pub broken : Bool
+
+abbrev pub check : Rule → Bool → Check
+check r b = record { rule = r; broken = b }
+
+abbrev pub pick {ℓ} : {A : Type ℓ} → Bool → A → A → A
+pick true a b = a
+pick false a b = b
+
+-- the first of the rules that is broken
+abbrev pub firstBroken : List Check → Verdict
+firstBroken [] = Kept
+firstBroken (c ∷ cs) = pick (c .broken) (Broken (c .rule)) (firstBroken cs)

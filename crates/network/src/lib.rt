@@ -1,0 +1,49 @@
+// Networks and switching plans as files: every byte string has one reading.
+pub mod input;
+pub mod network_file;
+pub mod plan;
+pub mod plan_file;
+pub mod record;
+pub mod refusal;
+pub mod stage;
+pub mod write;
+
+ghost use mathlib.Core.Path.{_≡_};
+ghost use Rattle.network.specs.Files.{emptyNetwork};
+
+// A network as its file states it: element i and link l of the file stand at index i and l, and later entries are 0.
+pub struct Network {
+    pub load: [u32; 64],
+    pub capacity: [u32; 64],
+    pub flags: [u16; 64],
+    pub from: [u16; 96],
+    pub to: [u16; 96],
+    pub form: [u16; 96],
+    pub cost: [u16; 96],
+    pub elements: usize,
+    pub links: usize,
+}
+
+impl Network {
+    pub const MAX_ELEMENTS: usize = 64;
+
+    pub const MAX_LINKS: usize = 96;
+
+    pub const MAX_OPERABLE: usize = 12;
+
+    pub fn empty() -> Network
+        ensures { λ r. ⌜ r ≡ emptyNetwork ⌝ }
+    {
+        Network {
+            load: [0; 64],
+            capacity: [0; 64],
+            flags: [0; 64],
+            from: [0; 96],
+            to: [0; 96],
+            form: [0; 96],
+            cost: [0; 96],
+            elements: 0,
+            links: 0,
+        }
+    }
+}
