@@ -1,17 +1,3 @@
 pub mod Table
 pub mod Due
-pub mod Runs
 pub mod Reader
-pub mod Outcomes
-pub mod Taken
-pub mod Chains
-pub mod Inputs
-pub mod Parts
-pub mod Order
-pub mod Sizes
-pub mod Decide
-pub mod Contents
-pub mod Accepted
-pub mod Written
-pub mod Stands
-pub mod RoundTrip

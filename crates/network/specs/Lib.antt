@@ -1,7 +1,4 @@
 pub mod Refusals
 pub mod Stages
 pub mod Records
-pub mod Files
-pub mod Inputs
-pub mod Writing
-pub mod Accepted
+pub mod Networks

@@ -1,15 +1,10 @@
-// Networks and switching plans as files: every byte string has one reading.
-pub mod input;
-pub mod network_file;
-pub mod plan;
-pub mod plan_file;
+// What a network is, and the records that its files are made of.
 pub mod record;
 pub mod refusal;
 pub mod stage;
-pub mod write;
 
 ghost use mathlib.Core.Path.{_≡_};
-ghost use Rattle.network.specs.Files.{emptyNetwork};
+ghost use Rattle.network.specs.Networks.{emptyNetwork};
 
 // A network as its file states it: element i and link l of the file stand at index i and l, and later entries are 0.
 pub struct Network {

@@ -1,7 +1,7 @@
 -- `network::Network::empty` is the empty network, by computing.
 -- Assumes nothing.
 use mathlib.Core.Path.{refl}
-use Rattle.network.specs.Files.{emptyNetwork}
+use Rattle.network.specs.Networks.{emptyNetwork}
 use Rattle.network.proofs.Network.empty.Statement.{statement}
 use Rattle.network.proofs.Network.empty.Tie as tie
 

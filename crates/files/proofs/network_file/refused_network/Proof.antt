@@ -1,0 +1,17 @@
+-- `files::network_file::refused_network` hands out the empty network.
+-- Assumes nothing.
+use mathlib.Core.Path.{_≡_, refl, ap, sym, _∙_}
+use Rattle.files.specs.Inputs.{networkPart}
+use borrow.Author.Needs.{needs}
+use Rattle.files.proofs.network_file.refused_network.Statement.{statement}
+use Rattle.files.proofs.network_file.refused_network.Tie as tie
+
+empty-requires : tie.Need-empty-requires
+empty-requires c κs = search needs
+
+returns : tie.Need-returns
+unfolding networkPart
+returns c = rw (c .empty .ensures)
+
+pub refused-network-spec : {M : Type 1} → statement M
+refused-network-spec = tie.close (tie.spec empty-requires returns)
