@@ -1,3 +1,3 @@
-pub mod Written
+pub mod Stores
 pub mod Stands
 pub mod RoundTrip

@@ -22,7 +22,7 @@ use Rattle.network.specs.Records.{word, lengthOf, fieldRules, planHeadRules, st
 use Rattle.files.specs.Files.{reached, records, asIs, emptyPlan, withStep, stepsOn, planEndOn, planFile, networkFile}
 use Rattle.files.specs.Inputs.{planInput, planBehind, bothInput}
 use Rattle.writer.specs.Writing.{stateNumber, planHeadBytes, stepBytes, stepsBytes, endBytes, planBytes, planLength, bufferAfter}
-use Rattle.writer.proofs.Written.{head-length, step-length, end-length, steps-length, plan-bytes-length}
+use Rattle.writer.proofs.Stores.{head-length, step-length, end-length, steps-length, plan-bytes-length}
 use Rattle.writer.proofs.Stands.{Stands, stands-between, stands-left, stands-right, stands-word, number-back}
 use Rattle.network.proofs.Reader.{due-found}
 use Rattle.files.proofs.Runs.{records-none, records-suc}

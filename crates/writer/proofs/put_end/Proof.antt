@@ -4,7 +4,7 @@ use mathlib.Core.Path.{refl}
 use Prim.Native.Nat.{_+_}
 use borrow.Author.Needs.{needs}
 use Rattle.writer.specs.Writing.{number, endBytes}
-use Rattle.writer.proofs.Written.{stored-behind}
+use Rattle.writer.proofs.Stores.{stored-behind}
 use Rattle.writer.proofs.put_end.Statement.{statement}
 use Rattle.writer.proofs.put_end.Tie as tie
 

@@ -4,7 +4,7 @@ use mathlib.Core.Path.{refl}
 use mathlib.Core.List.{_++_}
 use borrow.Author.Needs.{needs}
 use Rattle.writer.specs.Writing.{number, planHeadBytes}
-use Rattle.writer.proofs.Written.{stored-behind}
+use Rattle.writer.proofs.Stores.{stored-behind}
 use Rattle.writer.proofs.put_head.Statement.{statement}
 use Rattle.writer.proofs.put_head.Tie as tie
 

@@ -5,7 +5,7 @@ use mathlib.Core.List.{_++_}
 use Prim.Native.Nat.{_+_}
 use borrow.Author.Needs.{needs}
 use Rattle.writer.specs.Writing.{number, stateNumber, stepBytes}
-use Rattle.writer.proofs.Written.{stored-behind}
+use Rattle.writer.proofs.Stores.{stored-behind}
 use Rattle.writer.proofs.put_step.Statement.{statement}
 use Rattle.writer.proofs.put_step.Tie as tie
 

@@ -7,7 +7,7 @@ use lib.ListN.{length}
 use lib.Seq.{sets}
 use borrow.Author.Needs.{needs}
 use Rattle.writer.specs.Writing.{stepsBytes}
-use Rattle.writer.proofs.Written.{steps-none, step-stored, stored-length}
+use Rattle.writer.proofs.Stores.{steps-none, step-stored, stored-length}
 use Rattle.writer.proofs.put_steps.Statement.{statement}
 use Rattle.writer.proofs.put_steps.Tie as tie
 

@@ -5,7 +5,7 @@ use Prim.Native.Nat.{ℕ, _-_}
 use native.Mathlib.Omega.{arith}
 use borrow.Author.Needs.{needs}
 use Rattle.writer.specs.Writing.{planLength}
-use Rattle.writer.proofs.Written.{plan-stored, too-short, long-enough}
+use Rattle.writer.proofs.Stores.{plan-stored, too-short, long-enough}
 use Rattle.writer.proofs.write_plan.Statement.{statement}
 use Rattle.writer.proofs.write_plan.Tie as tie
 
