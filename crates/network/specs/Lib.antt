@@ -1,4 +1,3 @@
 pub mod Refusals
 pub mod Stages
-pub mod Records
 pub mod Networks

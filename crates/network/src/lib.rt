@@ -1,5 +1,4 @@
 // What a network is, and the records that its files are made of.
-pub mod record;
 pub mod refusal;
 pub mod stage;
 

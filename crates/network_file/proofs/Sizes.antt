@@ -1,0 +1,131 @@
+-- How long the network file and its input are: a head counts its records, and each stage's records are of one length.
+-- Assumes nothing.
+use mathlib.Core.Path.{_≡_, refl, sym, _∙_}
+use mathlib.Core.List.{List}
+use Prim.Native.Nat.{ℕ, _+_, _*_, _≤_}
+use native.Mathlib.Omega.{arith}
+use lib.ListN.{length}
+use Rattle.network.specs.declared.stage.Stage.{Stage}
+use Rattle.network.specs.declared.stage.Stage.the-variants.{Head, Elements, Links, End, PlanHead}
+use Rattle.network.specs.declared.Network.{Network}
+use Rattle.records.specs.Records.{word}
+use Rattle.network.specs.Networks.{emptyNetwork}
+use Rattle.network_file.specs.Runs.{reached, records, asIs}
+use Rattle.network_file.specs.NetworkFiles.{withElement, withLink, networkFile}
+use Rattle.network_file.specs.Inputs.{networkInput}
+use Rattle.records.proofs.Due.{head-kept}
+use Rattle.network_file.proofs.Runs.{run-same, run-count, run-ends, one-record}
+use Rattle.network_file.proofs.Parts.{then-reached, closed-reached, headRun, elementsRun, linksRun, endRun, withElements, withLinks, network-chain}
+
+-- The counts that a head states.
+pub record Counts (s : List ℕ) : Type 0 where
+  pub some : 1 ≤ word s 4
+  pub elements-fit : word s 4 ≤ 64
+  pub links-fit : word s 6 ≤ 96
+
+-- What is read after each part: where it ends, how many of each are read, and the run that read them.
+
+pub record HeadRead (s : List ℕ) (at : ℕ) (stage : Stage) (n : Network) : Type 0 where
+  pub counts : Counts s
+  pub ends : at ≡ 8
+  pub stage-is : stage ≡ Elements
+  pub value-is : n ≡ emptyNetwork
+
+pub head-read : (s : List ℕ) (at : ℕ) (stage : Stage) (n : Network) → headRun s ≡ reached at stage n → HeadRead s at stage n
+head-read s at stage n h =
+    let one = one-record s 0 0 asIs 0 Head emptyNetwork at stage n h in
+    let kept = head-kept (one .whole) in
+    record { counts = record { some = kept .some; elements-fit = kept .elements-fit; links-fit = kept .links-fit }; ends = omega arith; stage-is = one .last-is; value-is = one .value-is }
+
+pub record ElementsRead (s : List ℕ) (at : ℕ) (stage : Stage) (n : Network) : Type 0 where
+  pub counts : Counts s
+  pub ends : at ≡ 8 + 10 * word s 4
+  pub stage-is : stage ≡ Elements
+  pub elements-are : n .elements ≡ word s 4
+  pub links-are : n .links ≡ 0
+  pub run : records s 0 0 (withElement s) (word s 4) 8 Elements emptyNetwork ≡ reached at stage n
+
+pub elements-read :
+    (s : List ℕ) (at : ℕ) (stage : Stage) (n : Network) → withElements s ≡ reached at stage n → ElementsRead s at stage n
+unfolding withElement emptyNetwork
+elements-read s at stage n h =
+    let b = then-reached (elementsRun s) (headRun s) at stage n h in
+    let before = head-read s (b .at) (b .stage) (b .value) (b .first) in
+    let run : records s 0 0 (withElement s) (word s 4) 8 Elements emptyNetwork ≡ reached at stage n =
+    rw (before .ends, before .stage-is, before .value-is) at (b .then)
+    in
+    let ends = run-ends s 0 0 (withElement s) (word s 4) 8 Elements emptyNetwork at stage n run refl in
+    let count = run-count s 0 0 (withElement s) (word s 4) 8 Elements emptyNetwork at stage n run (λ n. n .elements) (λ at n. refl) in
+    record {
+      counts = before .counts;
+      ends = omega arith;
+      stage-is = ends .1;
+      elements-are = omega arith;
+      links-are = run-same s 0 0 (withElement s) (word s 4) 8 Elements emptyNetwork at stage n run (λ n. n .links) (λ at n. refl);
+      run = run;
+    }
+
+pub record LinksRead (s : List ℕ) (at : ℕ) (stage : Stage) (n : Network) : Type 0 where
+  pub before : Network
+  pub elements : ElementsRead s (8 + 10 * word s 4) Elements before
+  pub ends : at ≡ 8 + 10 * word s 4 + 12 * word s 6
+  pub stage-is : stage ≡ Links
+  pub elements-are : n .elements ≡ word s 4
+  pub links-are : n .links ≡ word s 6
+  pub run : records s (word s 4) 0 (withLink s) (word s 6) (8 + 10 * word s 4) Links before ≡ reached at stage n
+
+pub links-read : (s : List ℕ) (at : ℕ) (stage : Stage) (n : Network) → withLinks s ≡ reached at stage n → LinksRead s at stage n
+unfolding withLink
+links-read s at stage n h =
+    let b = then-reached (linksRun s) (withElements s) at stage n h in
+    let before = elements-read s (b .at) (b .stage) (b .value) (b .first) in
+    let run : records s (word s 4) 0 (withLink s) (word s 6) (8 + 10 * word s 4) Links (b .value) ≡ reached at stage n =
+    rw (before .ends, before .stage-is, before .elements-are) at (b .then)
+    in
+    let ends = run-ends s (word s 4) 0 (withLink s) (word s 6) (8 + 10 * word s 4) Links (b .value) at stage n run refl in
+    let count = run-count s (word s 4) 0 (withLink s) (word s 6) (8 + 10 * word s 4) Links (b .value) at stage n run (λ n. n .links) (λ at n. refl) in
+    let same = run-same s (word s 4) 0 (withLink s) (word s 6) (8 + 10 * word s 4) Links (b .value) at stage n run (λ n. n .elements) (λ at n. refl) in
+    record {
+      before = b .value;
+      elements = rw (before .ends, before .stage-is) at before;
+      ends = omega arith;
+      stage-is = ends .1;
+      elements-are = same ∙ before .elements-are;
+      links-are = omega (arith, before .links-are);
+      run = run;
+    }
+
+-- A network file is 12 bytes, 10 for each element and 12 for each link.
+pub record NetworkSize (s : List ℕ) (at : ℕ) (stage : Stage) (n : Network) : Type 0 where
+  pub links : LinksRead s (8 + 10 * word s 4 + 12 * word s 6) Links n
+  pub stage-is : stage ≡ PlanHead
+  pub ends : at ≡ 12 + 10 * n .elements + 12 * n .links
+  pub at-most : at ≤ 1804
+  pub inside : at ≤ length s
+
+pub network-size : (s : List ℕ) (at : ℕ) (stage : Stage) (n : Network) → networkFile s ≡ reached at stage n → NetworkSize s at stage n
+network-size s at stage n h =
+    let b = then-reached (endRun s) (withLinks s) at stage n (sym (network-chain s) ∙ h) in
+    let before = links-read s (b .at) (b .stage) (b .value) (b .first) in
+    let run : records s 0 0 asIs 1 (b .at) End (b .value) ≡ reached at stage n = rw (before .stage-is) at (b .then) in
+    let one = one-record s 0 0 asIs (b .at) End (b .value) at stage n run in
+    let net : b .value ≡ n = sym (one .value-is) in
+    let all : LinksRead s (8 + 10 * word s 4 + 12 * word s 6) Links n = rw (before .ends, before .stage-is, net) at before in
+    let counts = all .elements .counts in
+    record {
+      links = all;
+      stage-is = one .last-is;
+      ends = omega (arith, before .ends, one .ends, all .elements-are, all .links-are);
+      at-most = omega (arith, before .ends, one .ends);
+      inside = omega (arith, one .ends, one .whole .framed .fits);
+    }
+
+pub network-input-size :
+    (s : List ℕ) (at : ℕ) (stage : Stage) (n : Network) →
+    networkInput s ≡ reached at stage n →
+    (networkFile s ≡ reached at stage n) × (length s ≡ at) × (length s ≤ 1804)
+unfolding networkInput
+network-input-size s at stage n h =
+    let c = closed-reached s (networkFile s) at stage n h in
+    let size = network-size s at stage n (c .0) in
+    (c .0, omega (arith, c .1, size .inside), omega (arith, c .1, size .at-most))

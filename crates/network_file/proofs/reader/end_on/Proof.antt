@@ -1,0 +1,59 @@
+-- `network_file::reader::end_on` reads the end record: a run of one record of which nothing is kept.
+-- Assumes nothing.
+use mathlib.Core.Path.{refl, ap, sym, _∙_}
+use native.Mathlib.Omega.{arith}
+use Rattle.network_file.specs.Runs.{asIs}
+use Rattle.network_file.specs.NetworkFiles.{endOn}
+use Rattle.network_file.specs.Inputs.{networkPart}
+use Rattle.records.proofs.Due.{due-kept}
+use Rattle.network_file.proofs.Runs.{records-none}
+use Rattle.network_file.proofs.Outcomes.{run-refused, run-turn}
+use borrow.Author.Needs.{needs}
+use Rattle.network_file.proofs.reader.end_on.Statement.{statement}
+use Rattle.network_file.proofs.reader.end_on.Tie as tie
+
+due-at-requires : tie.Need-due-at-requires
+due-at-requires c κs = search needs
+
+enum-known-found : tie.Need-enum-known-found
+enum-known-found c = search needs
+
+refused-network-requires : tie.Need-refused-network-requires
+refused-network-requires c κs = search needs
+
+enum-known-found-2 : tie.Need-enum-known-found-2
+enum-known-found-2 c = search needs
+
+cast-after : tie.Need-cast-after
+cast-after c = search needs
+
+add-after : tie.Need-add-after
+add-after c =
+    let args = c .before .before .before .before .before .args in
+    omega (arith, due-kept (args .s .now) 0 0 (args .at) (args .stage) (sym (c .before .before .before .due-at .ensures) ∙ c .before .found2 .given .1) .framed .fits)
+
+returns : tie.Need-returns
+unfolding endOn
+returns c =
+    let args = c .before .before .before .before .before .before .args in
+    let due-at = c .before .before .before .before .due-at in
+    c .refused-network .ensures ∙ ap networkPart (run-refused (args .s .now) 0 0 asIs _ 1 (args .at) (args .stage) (args .net) refl _ (omega arith) (due-at .ensures) _ (c .before .before .found .given .1))
+
+returns-2 : tie.Need-returns-2
+unfolding endOn networkPart
+returns-2 c =
+    let args = c .before .before .before .before .before .args in
+    ap networkPart (sym (records-none (args .s .now) 0 0 asIs _ _ (args .net)) ∙ run-turn (args .s .now) 0 0 asIs _ 1 (args .at) (args .stage) (args .net) refl _ (omega arith) (c .before .before .before .due-at .ensures) _ _ _ (c .before .found2 .given .1))
+
+pub end-on-spec : {M : Type 1} → statement M
+end-on-spec =
+    tie.close
+    (tie.spec
+    due-at-requires
+    enum-known-found
+    refused-network-requires
+    enum-known-found-2
+    cast-after
+    add-after
+    returns
+    returns-2)

@@ -1,0 +1,31 @@
+-- Document 01, refusals 5 to 9: what they promise of a network that is not refused.
+-- Assumes nothing.
+use mathlib.Core.Path.{_≡_}
+use mathlib.Core.Bool.{true}
+use Prim.Native.Nat.{ℕ, _^_, _<_, _≤_}
+use lib.ListN.{length, getD}
+use Rattle.network.specs.declared.Network.{Network}
+use Rattle.records.specs.Records.{suits}
+
+-- Rules 5 to 9: "E or K outside its range", "flags exceed 3", "an end of E or more, or two equal ends", "form exceeds 2", "cost
+-- doesn't suit its form"; a load and a capacity are below 2 ^ 32, a cost is of two bytes
+pub record WellFormed (n : Network) : Type 0 where
+  pub some : 1 ≤ n .elements
+  pub elements-fit : n .elements ≤ 64
+  pub links-fit : n .links ≤ 96
+  pub load-long : length (n .load) ≡ 64
+  pub capacity-long : length (n .capacity) ≡ 64
+  pub flags-long : length (n .flags) ≡ 64
+  pub from-long : length (n .from) ≡ 96
+  pub to-long : length (n .to) ≡ 96
+  pub form-long : length (n .form) ≡ 96
+  pub cost-long : length (n .cost) ≡ 96
+  pub load-in : (i : ℕ) → i < n .elements → getD (n .load) i 0 < 2 ^ 32
+  pub capacity-in : (i : ℕ) → i < n .elements → getD (n .capacity) i 0 < 2 ^ 32
+  pub flags-in : (i : ℕ) → i < n .elements → getD (n .flags) i 0 ≤ 3
+  pub from-in : (l : ℕ) → l < n .links → getD (n .from) l 0 < n .elements
+  pub to-in : (l : ℕ) → l < n .links → getD (n .to) l 0 < n .elements
+  pub differ : (l : ℕ) → l < n .links → getD (n .from) l 0 ≡ getD (n .to) l 0 → ⊥
+  pub form-in : (l : ℕ) → l < n .links → getD (n .form) l 0 ≤ 2
+  pub cost-in : (l : ℕ) → l < n .links → getD (n .cost) l 0 < 65536
+  pub suited : (l : ℕ) → l < n .links → suits (getD (n .form) l 0) (getD (n .cost) l 0) ≡ true

@@ -1,0 +1,4 @@
+pub mod Runs
+pub mod NetworkFiles
+pub mod Inputs
+pub mod Accepted

@@ -1,0 +1,183 @@
+// The network file: one head, its elements, its links, one end.
+use network::Network;
+use network::refusal::Refusal;
+use network::stage::Stage;
+use network::stage::after_last;
+use records::Found;
+use records::due_at;
+use records::word_at;
+ghost use mathlib.Core.Path.{_≡_};
+ghost use Prim.Native.Nat.{_+_, _<_, _≤_};
+ghost use lib.ListN.{length};
+ghost use Rattle.records.specs.Records.{word};
+ghost use Rattle.network.specs.Networks.{emptyNetwork};
+ghost use Rattle.network_file.specs.Runs.{records, refused};
+ghost use Rattle.network_file.specs.NetworkFiles.{withElement, withLink, networkFile, elementsOn, linksOn, endOn};
+ghost use Rattle.network_file.specs.Inputs.{networkPart};
+ghost use Rattle.network.specs.declared.stage.Stage.{Stage};
+ghost use Rattle.network.specs.declared.stage.Stage.the-variants.{Elements, Links};
+
+// How far reading came: the offset and the stage of the record that is due next, or the refusal.
+pub enum Reached {
+    At(usize, Stage),
+    Refused(Refusal),
+}
+
+// What has been read; the empty network where it was refused.
+pub struct NetworkPart {
+    pub reached: Reached,
+    pub net: Network,
+}
+
+fn refused_network(refusal: Refusal) -> NetworkPart
+    ensures { λ r. ⌜ r ≡ networkPart (refused refusal) ⌝ }
+{
+    let net = Network::empty();
+    NetworkPart {
+        reached: Reached::Refused(refusal),
+        net,
+    }
+}
+
+// So many element records from an offset on.
+fn read_elements(s: &[u8], count: usize, start: usize, first: Stage) -> NetworkPart
+    requires { ⌜ (count ≤ 64) × (first ≡ Elements) ⌝ }
+    ensures { λ r. ⌜ r ≡ networkPart (records (now (s .entry)) 0 0 (withElement (now (s .entry))) count start first emptyNetwork) ⌝ }
+{
+    let mut net = Network::empty();
+    let mut at = start;
+    let mut stage = first;
+    let mut left = count;
+    while 0 < left {
+        let found = due_at(s, at, stage, 0, 0);
+        match found {
+            Found::Refused(refusal) => {
+                return refused_network(refusal);
+            }
+            Found::Record {
+                kind: _,
+                length,
+                next,
+            } => {
+                let i = net.elements;
+                net.load[i] = word_at(s, at + 4) as u32;
+                net.capacity[i] = word_at(s, at + 6) as u32;
+                net.flags[i] = word_at(s, at + 8);
+                net.elements = i + 1;
+                at += length as usize;
+                stage = next;
+                left -= 1;
+            }
+        }
+    }
+    NetworkPart {
+        reached: Reached::At(at, stage),
+        net,
+    }
+}
+
+// So many link records from an offset on, after the elements.
+fn read_links(s: &[u8], count: usize, start: usize, first: Stage, elements: Network) -> NetworkPart
+    requires { ⌜ (elements .links + count ≤ 96) × (first ≡ Links) ⌝ }
+    ensures { λ r. ⌜ r ≡ networkPart (records (now (s .entry)) (elements .elements) 0 (withLink (now (s .entry))) count start first elements) ⌝ }
+{
+    let e = elements.elements;
+    let mut net = elements;
+    let mut at = start;
+    let mut stage = first;
+    let mut left = count;
+    while 0 < left {
+        let found = due_at(s, at, stage, e, 0);
+        match found {
+            Found::Refused(refusal) => {
+                return refused_network(refusal);
+            }
+            Found::Record {
+                kind: _,
+                length,
+                next,
+            } => {
+                let i = net.links;
+                net.from[i] = word_at(s, at + 4);
+                net.to[i] = word_at(s, at + 6);
+                net.form[i] = word_at(s, at + 8);
+                net.cost[i] = word_at(s, at + 10);
+                net.links = i + 1;
+                at += length as usize;
+                stage = next;
+                left -= 1;
+            }
+        }
+    }
+    NetworkPart {
+        reached: Reached::At(at, stage),
+        net,
+    }
+}
+
+fn end_on(s: &[u8], at: usize, stage: Stage, net: Network) -> NetworkPart
+    ensures { λ r. ⌜ r ≡ networkPart (endOn (now (s .entry)) at stage net) ⌝ }
+{
+    let found = due_at(s, at, stage, 0, 0);
+    match found {
+        Found::Refused(refusal) => refused_network(refusal),
+        Found::Record {
+            kind: _,
+            length,
+            next,
+        } => {
+            let after = at + length as usize;
+            NetworkPart {
+                reached: Reached::At(after, next),
+                net,
+            }
+        }
+    }
+}
+
+fn links_on(s: &[u8], at: usize, stage: Stage, net: Network) -> NetworkPart
+    requires { ⌜ (8 ≤ length (now s)) × (net .links + word (now s) 6 ≤ 96) × (stage ≡ Links) ⌝ }
+    ensures { λ r. ⌜ r ≡ networkPart (linksOn (now (s .entry)) at stage net) ⌝ }
+{
+    let count = word_at(s, 6) as usize;
+    let part = read_links(s, count, at, stage, net);
+    let reached = part.reached;
+    match reached {
+        Reached::Refused(_) => part,
+        Reached::At(after, next) => {
+            let all = part.net;
+            end_on(s, after, after_last(next), all)
+        }
+    }
+}
+
+fn elements_on(s: &[u8], at: usize, stage: Stage) -> NetworkPart
+    requires { ⌜ (8 ≤ length (now s)) × (word (now s) 4 ≤ 64) × (word (now s) 6 ≤ 96) × (stage ≡ Elements) ⌝ }
+    ensures { λ r. ⌜ r ≡ networkPart (elementsOn (now (s .entry)) at stage emptyNetwork) ⌝ }
+{
+    let count = word_at(s, 4) as usize;
+    let part = read_elements(s, count, at, stage);
+    let reached = part.reached;
+    match reached {
+        Reached::Refused(_) => part,
+        Reached::At(after, next) => {
+            let net = part.net;
+            links_on(s, after, after_last(next), net)
+        }
+    }
+}
+
+// The network file at the front of `s`, whatever follows it.
+pub fn network_file(s: &[u8]) -> NetworkPart
+    ensures { λ r. ⌜ r ≡ networkPart (networkFile (now (s .entry))) ⌝ }
+{
+    let found = due_at(s, 0, Stage::Head, 0, 0);
+    match found {
+        Found::Refused(refusal) => refused_network(refusal),
+        Found::Record {
+            kind: _,
+            length,
+            next,
+        } => elements_on(s, length as usize, next),
+    }
+}

@@ -1,0 +1,61 @@
+-- The plan read is what the file states: the run over its steps fills its lists with the fields of their records in their order.
+-- Assumes nothing.
+use mathlib.Core.Path.{_≡_, refl}
+use mathlib.Core.Bool.{false}
+use mathlib.Core.List.{List}
+use Prim.Native.Nat.{ℕ, _+_, _*_, _<_, _≤_}
+use native.Mathlib.Omega.{arith}
+use lib.Dec.{eqb}
+use lib.ListN.{length, getD}
+use Rattle.network.specs.declared.stage.Stage.{Stage}
+use Rattle.network.specs.declared.stage.Stage.the-variants.{Steps}
+use Rattle.plan_file.specs.declared.plan.Plan.{Plan}
+use Rattle.records.specs.Records.{word}
+use Rattle.network_file.specs.Runs.{reached}
+use Rattle.plan_file.specs.PlanFiles.{emptyPlan, withStep, planFile}
+use Rattle.records.proofs.Due.{Whole, kindAt, longAt, nextAt}
+use Rattle.plan_file.proofs.Sizes.{StepsRead, plan-size}
+use Rattle.network_file.proofs.Contents.{run-whole, run-long, run-fills}
+
+-- The steps of the file: the record of each, and the fields of it that are kept.
+
+pub record StepAt (s : List ℕ) (links head : ℕ) (p : Plan) (i : ℕ) : Type 0 where
+  pub whole : Whole s 0 links (head + 6 + 8 * i) Steps (kindAt Steps) (longAt Steps) (nextAt Steps)
+  pub link-is : getD (p .link) i 0 ≡ word s (head + 6 + 8 * i + 4)
+  pub close-is : getD (p .close) i false ≡ eqb (word s (head + 6 + 8 * i + 6)) 1
+
+pub record PlanHolds (s : List ℕ) (links head : ℕ) (p : Plan) : Type 0 where
+  pub link-long : length (p .link) ≡ 255
+  pub close-long : length (p .close) ≡ 255
+  pub step : (i : ℕ) → i < p .steps → StepAt s links head p i
+
+pub plan-holds :
+    (s : List ℕ) (links head at : ℕ) (stage : Stage) (p : Plan) → planFile s links head ≡ reached at stage p → PlanHolds s links head p
+unfolding emptyPlan withStep
+plan-holds s links head at stage p h =
+    record {
+      link-long =
+          run-long s 0 links (withStep s) (word s (head + 4)) (head + 6) Steps emptyPlan _ Steps p (steps .run) refl (λ p. p .link) (λ p. p .steps)
+          (λ at. word s (at + 4)) 0 refl fits (λ at p. refl) (λ at p. refl);
+      close-long =
+          run-long s 0 links (withStep s) (word s (head + 4)) (head + 6) Steps emptyPlan _ Steps p (steps .run) refl (λ p. p .close) (λ p. p .steps)
+          (λ at. eqb (word s (at + 6)) 1) false refl fits (λ at p. refl) (λ at p. refl);
+      step =
+          λ i lt.
+          let lt' : i < word s (head + 4) = omega (arith, steps .steps-are) in
+          record {
+            whole = run-whole s 0 links (withStep s) (word s (head + 4)) (head + 6) Steps emptyPlan _ Steps p (steps .run) refl i lt';
+            link-is =
+                run-fills s 0 links (withStep s) (word s (head + 4)) (head + 6) Steps emptyPlan _ Steps p (steps .run) refl (λ p. p .link) (λ p. p .steps)
+                (λ at. word s (at + 4)) 0 refl fits (λ at p. refl) (λ at p. refl) i lt';
+            close-is =
+                run-fills s 0 links (withStep s) (word s (head + 4)) (head + 6) Steps emptyPlan _ Steps p (steps .run) refl (λ p. p .close) (λ p. p .steps)
+                (λ at. eqb (word s (at + 6)) 1) false refl fits (λ at p. refl) (λ at p. refl) i lt';
+          };
+    }
+  where
+    steps : StepsRead s links head (head + 6 + 8 * word s (head + 4)) Steps p
+    steps = plan-size s links head at stage p h .steps
+
+    fits : word s (head + 4) ≤ 255
+    fits = steps .steps-fit

@@ -1,0 +1,10 @@
+pub mod Outcomes
+pub mod Taken
+pub mod Parts
+pub mod Chains
+pub mod Inputs
+pub mod Order
+pub mod Sizes
+pub mod Decide
+pub mod Contents
+pub mod Accepted

@@ -1,0 +1,121 @@
+-- How long the plan file and the inputs that hold it are: a head counts its records, and each stage's records are of one length.
+-- Assumes nothing.
+use mathlib.Core.Path.{_≡_, refl, sym, ap, _∙_}
+use mathlib.Core.List.{List}
+use Prim.Native.Nat.{ℕ, _+_, _*_, _≤_}
+use native.Mathlib.Omega.{arith}
+use lib.ListN.{length}
+use Rattle.network.specs.declared.stage.Stage.{Stage}
+use Rattle.network.specs.declared.stage.Stage.the-variants.{PlanHead, Steps, PlanEnd, Over}
+use Rattle.network.specs.declared.Network.{Network}
+use Rattle.plan_file.specs.declared.plan.Plan.{Plan}
+use Rattle.records.specs.Records.{word}
+use Rattle.network_file.specs.Runs.{reached, records, asIs}
+use Rattle.network_file.specs.NetworkFiles.{networkFile}
+use Rattle.plan_file.specs.PlanFiles.{emptyPlan, withStep, planFile}
+use Rattle.plan_file.specs.Inputs.{planInput, paired, planBehind, bothInput}
+use Rattle.records.proofs.Due.{plan-head-kept}
+use Rattle.network_file.proofs.Runs.{run-count, run-ends, one-record}
+use Rattle.network_file.proofs.Parts.{then-reached, closed-reached}
+use Rattle.plan_file.proofs.Parts.{planHeadRun, stepsRun, planEndRun, withSteps, plan-chain}
+use Rattle.network_file.proofs.Sizes.{network-size}
+
+-- The plan file at an offset: 10 bytes, and 8 for each step.
+
+pub record PlanHeadRead (s : List ℕ) (head at : ℕ) (stage : Stage) (p : Plan) : Type 0 where
+  pub steps-fit : word s (head + 4) ≤ 255
+  pub ends : at ≡ head + 6
+  pub stage-is : stage ≡ Steps
+  pub value-is : p ≡ emptyPlan
+
+pub record StepsRead (s : List ℕ) (links head at : ℕ) (stage : Stage) (p : Plan) : Type 0 where
+  pub steps-fit : word s (head + 4) ≤ 255
+  pub ends : at ≡ head + 6 + 8 * word s (head + 4)
+  pub stage-is : stage ≡ Steps
+  pub steps-are : p .steps ≡ word s (head + 4)
+  pub run : records s 0 links (withStep s) (word s (head + 4)) (head + 6) Steps emptyPlan ≡ reached at stage p
+
+pub record PlanSize (s : List ℕ) (links head at : ℕ) (stage : Stage) (p : Plan) : Type 0 where
+  pub steps : StepsRead s links head (head + 6 + 8 * word s (head + 4)) Steps p
+  pub stage-is : stage ≡ Over
+  pub ends : at ≡ head + 10 + 8 * p .steps
+  pub at-most : at ≤ head + 2050
+  pub inside : at ≤ length s
+
+module _ (s : List ℕ) (links head at : ℕ) (stage : Stage) (p : Plan) where
+  pub plan-head-read : planHeadRun s links head ≡ reached at stage p → PlanHeadRead s head at stage p
+  plan-head-read h =
+      let one = one-record s 0 links asIs head PlanHead emptyPlan at stage p h in
+      record { steps-fit = plan-head-kept (one .whole); ends = one .ends; stage-is = one .last-is; value-is = one .value-is }
+
+module _ (s : List ℕ) (links head at : ℕ) (stage : Stage) (p : Plan) where
+  pub steps-read : withSteps s links head ≡ reached at stage p → StepsRead s links head at stage p
+  unfolding withStep emptyPlan
+  steps-read h =
+      let b = then-reached (stepsRun s links head) (planHeadRun s links head) at stage p h in
+      let before = plan-head-read s links head (b .at) (b .stage) (b .value) (b .first) in
+      let run : records s 0 links (withStep s) (word s (head + 4)) (head + 6) Steps emptyPlan ≡ reached at stage p =
+      rw (before .ends, before .stage-is, before .value-is) at (b .then)
+      in
+      let ends = run-ends s 0 links (withStep s) (word s (head + 4)) (head + 6) Steps emptyPlan at stage p run refl in
+      let count = run-count s 0 links (withStep s) (word s (head + 4)) (head + 6) Steps emptyPlan at stage p run (λ p. p .steps) (λ at p. refl) in
+      record { steps-fit = before .steps-fit; ends = omega arith; stage-is = ends .1; steps-are = omega arith; run = run }
+
+module _ (s : List ℕ) (links head at : ℕ) (stage : Stage) (p : Plan) where
+  pub plan-size : planFile s links head ≡ reached at stage p → PlanSize s links head at stage p
+  plan-size h =
+      let b = then-reached (planEndRun s links head) (withSteps s links head) at stage p (sym (plan-chain s links head) ∙ h) in
+      let before = steps-read s links head (b .at) (b .stage) (b .value) (b .first) in
+      let run : records s 0 links asIs 1 (b .at) PlanEnd (b .value) ≡ reached at stage p = rw (before .stage-is) at (b .then) in
+      let one = one-record s 0 links asIs (b .at) PlanEnd (b .value) at stage p run in
+      let plan : b .value ≡ p = sym (one .value-is) in
+      let all : StepsRead s links head (head + 6 + 8 * word s (head + 4)) Steps p = rw (before .ends, before .stage-is, plan) at before in
+      record {
+        steps = all;
+        stage-is = one .last-is;
+        ends = omega (arith, before .ends, one .ends, all .steps-are);
+        at-most = omega (arith, before .ends, one .ends, before .steps-fit);
+        inside = omega (arith, one .ends, one .whole .framed .fits);
+      }
+
+  pub plan-input-size : planInput s links head ≡ reached at stage p → (planFile s links head ≡ reached at stage p) × (length s ≡ at)
+  unfolding planInput
+  plan-input-size h =
+      let c = closed-reached s (planFile s links head) at stage p h in
+      let size = plan-size (c .0) in
+      (c .0, omega (arith, c .1, size .inside))
+
+-- The judge's input: both files, and nothing behind them.
+pub record BothSize (s : List ℕ) (at : ℕ) (stage : Stage) (n : Network) (p : Plan) : Type 0 where
+  pub middle : ℕ
+  pub due : Stage
+  pub network : networkFile s ≡ reached middle due n
+  pub plan : planFile s (n .links) middle ≡ reached at stage p
+  pub ends : length s ≡ at
+  pub at-most : length s ≤ 3854
+
+pub both-size :
+    (s : List ℕ) (at : ℕ) (stage : Stage) (n : Network) (p : Plan) → bothInput s ≡ reached at stage (n, p) → BothSize s at stage n p
+unfolding bothInput planBehind
+both-size s at stage n p h =
+    let b = then-reached (λ at stage n. planBehind s at n) (networkFile s) at stage (n, p) h in
+    let c = then-reached (paired (b .value)) (planInput s (b .value .links) (b .at)) at stage (n, p) (b .then) in
+    let last = c .then in
+    let at-is : c .at ≡ at = cc in
+    let stage-is : c .stage ≡ stage = cc in
+    let pair : _≡_ {A = Network × Plan} (b .value, c .value) (n, p) = cc in
+    let net : b .value ≡ n = ap (λ (x : Network × Plan). x .0) pair in
+    let plan : c .value ≡ p = ap (λ (x : Network × Plan). x .1) pair in
+    let network : networkFile s ≡ reached (b .at) (b .stage) n = rw net at (b .first) in
+    let file : planInput s (n .links) (b .at) ≡ reached at stage p = rw (at-is, stage-is, plan, net) at (c .first) in
+    let size = network-size s (b .at) (b .stage) n network in
+    let end = plan-input-size s (n .links) (b .at) at stage p file in
+    let length-is = plan-size s (n .links) (b .at) at stage p (end .0) in
+    record {
+      middle = b .at;
+      due = b .stage;
+      network = network;
+      plan = end .0;
+      ends = end .1;
+      at-most = omega (arith, end .1, size .at-most, length-is .at-most);
+    }

@@ -1,0 +1,154 @@
+-- `plan_file::reader::read_steps` reads so many steps: at each turn what is left to read gives the whole outcome.
+-- Assumes nothing.
+use mathlib.Core.Path.{_≡_, refl, ap, _∙_}
+use Prim.Native.Nat.{_+_, _-_, _≤_}
+use native.Mathlib.Omega.{arith}
+use Rattle.plan_file.specs.declared.plan.Plan.{Plan}
+use Rattle.network.specs.declared.stage.Stage.the-variants.{Steps}
+use Rattle.network_file.specs.Runs.{records}
+use Rattle.plan_file.specs.PlanFiles.{emptyPlan, withStep}
+use Rattle.plan_file.specs.Inputs.{planPart}
+use Rattle.network_file.proofs.Outcomes.{run-done, run-refused, run-turn, turn-whole}
+use Rattle.plan_file.proofs.Taken.{step-taken}
+use borrow.Author.Needs.{needs}
+use Rattle.plan_file.proofs.reader.read_steps.Statement.{statement}
+use Rattle.plan_file.proofs.reader.read_steps.Tie as tie
+
+abbrev Inv-loop : tie.InvT-loop
+Inv-loop s count start links plan₀ at₀ stage₀ left₀ plan at stage left =
+    (stage ≡ Steps) × (plan .steps + left ≤ 255) × (records s 0 links (withStep s) left at stage plan ≡ records s 0 links (withStep s) left₀ at₀ stage₀ plan₀)
+
+abbrev μ-loop : tie.MeasureT-loop
+μ-loop s count start links plan₀ at₀ stage₀ left₀ plan at stage left = left
+
+empty-requires : tie.Need-empty-requires Inv-loop μ-loop
+empty-requires c κs = tt
+
+loop-holds : tie.Need-loop-holds Inv-loop μ-loop
+unfolding emptyPlan
+loop-holds c =
+    let pre = c .before .before .pre in
+    let n = ap (λ (x : Plan). x .steps) (c .empty .ensures) in (pre .1, omega (arith, n, pre .0), refl)
+
+due-at-requires : tie.Need-due-at-requires Inv-loop μ-loop
+due-at-requires c κs = tt
+
+enum-known-found : tie.Need-enum-known-found Inv-loop μ-loop
+enum-known-found c = search needs
+
+refused-plan-requires : tie.Need-refused-plan-requires Inv-loop μ-loop
+refused-plan-requires c κs = tt
+
+returns : tie.Need-returns Inv-loop μ-loop
+returns c =
+    let args = c .before .before .before .before .before .before .before .before .before .args in
+    let loop = c .before .before .before .before .before .before .loop in
+    let loop-test = c .before .before .before .before .before .loop-test in
+    let due-at = c .before .before .before .before .due-at in
+    let empty = c .before .before .before .before .before .before .before .empty in
+    c .refused-plan .ensures ∙ ap planPart (run-refused (args .s .now) 0 (args .links) (withStep (args .s .now)) _ (loop .left) (loop .at) (loop .stage) (loop .plan) (loop .inv .2) _ (loop-test .taken) (due-at .ensures) _ (c .before .before .found .given .1)) ∙ ap (λ (x : Plan). planPart (records (args .s .now) 0 (args .links) (withStep (args .s .now)) (args .count) (args .start) (args .first) x)) (empty .ensures)
+
+enum-known-found-2 : tie.Need-enum-known-found-2 Inv-loop μ-loop
+enum-known-found-2 c = search needs
+
+cast-i : tie.Need-cast-i Inv-loop μ-loop
+cast-i c = omega arith
+
+add-word-at : tie.Need-add-word-at Inv-loop μ-loop
+add-word-at c =
+    let args = c .before .before .before .before .before .before .before .before .args in
+    let loop = c .before .before .before .before .before .loop in
+    let w = turn-whole (args .s .now) 0 (args .links) (loop .at) (loop .stage) Steps _ _ _ _ (c .before .before .before .due-at .ensures) (loop .inv .0) (c .before .found2 .given .1) in omega arith
+
+word-at-requires : tie.Need-word-at-requires Inv-loop μ-loop
+word-at-requires c κs =
+    let args = c .before .before .before .before .before .before .before .before .args in
+    let loop = c .before .before .before .before .before .loop in
+    let w = turn-whole (args .s .now) 0 (args .links) (loop .at) (loop .stage) Steps _ _ _ _ (c .before .before .before .due-at .ensures) (loop .inv .0) (c .before .found2 .given .1) in omega arith
+
+mul-plan : tie.Need-mul-plan Inv-loop μ-loop
+mul-plan c = omega arith
+
+element-write-plan : tie.Need-element-write-plan Inv-loop μ-loop
+element-write-plan c = omega arith
+
+add-word-at-2 : tie.Need-add-word-at-2 Inv-loop μ-loop
+add-word-at-2 c =
+    let args = c .before .before .before .before .before .before .before .before .before .args in
+    let loop = c .before .before .before .before .before .before .loop in
+    let due-at = c .before .before .before .before .due-at in
+    let w = turn-whole (args .s .now) 0 (args .links) (loop .at) (loop .stage) Steps _ _ _ _ (due-at .ensures) (loop .inv .0) (c .before .before .found2 .given .1) in omega arith
+
+word-at-requires-2 : tie.Need-word-at-requires-2 Inv-loop μ-loop
+word-at-requires-2 c κs =
+    let args = c .before .before .before .before .before .before .before .before .before .args in
+    let loop = c .before .before .before .before .before .before .loop in
+    let due-at = c .before .before .before .before .due-at in
+    let w = turn-whole (args .s .now) 0 (args .links) (loop .at) (loop .stage) Steps _ _ _ _ (due-at .ensures) (loop .inv .0) (c .before .before .found2 .given .1) in omega arith
+
+element-write-plan-2 : tie.Need-element-write-plan-2 Inv-loop μ-loop
+element-write-plan-2 c = omega arith
+
+add-plan : tie.Need-add-plan Inv-loop μ-loop
+add-plan c = omega arith
+
+cast-at : tie.Need-cast-at Inv-loop μ-loop
+cast-at c = search needs
+
+add-at : tie.Need-add-at Inv-loop μ-loop
+add-at c =
+    let args = c .before .before .before .before .before .before .before .before .before .before .args in
+    let loop = c .before .before .before .before .before .before .before .loop in
+    let due-at = c .before .before .before .before .before .due-at in
+    let w = turn-whole (args .s .now) 0 (args .links) (loop .at) (loop .stage) Steps _ _ _ _ (due-at .ensures) (loop .inv .0) (c .before .before .before .found2 .given .1) in omega arith
+
+sub-left : tie.Need-sub-left Inv-loop μ-loop
+sub-left c = omega arith
+
+loop-less : tie.Need-loop-less Inv-loop μ-loop
+loop-less c = omega arith
+
+loop-again : tie.Need-loop-again Inv-loop μ-loop
+loop-again c =
+    let args = c .before .before .before .before .before .before .before .before .before .before .args in
+    let loop = c .before .before .before .before .before .before .before .loop in
+    let due-at = c .before .before .before .before .before .due-at in
+    let found2 = c .before .before .before .found2 in
+    let loop-test = c .before .before .before .before .before .before .loop-test in
+    let w = turn-whole (args .s .now) 0 (args .links) (loop .at) (loop .stage) Steps _ _ _ _ (due-at .ensures) (loop .inv .0) (found2 .given .1) in (w .2, omega arith, ap (records (args .s .now) 0 (args .links) (withStep (args .s .now)) (loop .left - 1) _ _) (step-taken (args .s .now) (loop .at) (loop .plan) _ _ (c .before .word-at .ensures) (c .word-at2 .ensures)) ∙ run-turn (args .s .now) 0 (args .links) (withStep (args .s .now)) _ (loop .left) (loop .at) (loop .stage) (loop .plan) (loop .inv .2) _ (loop-test .taken) (due-at .ensures) _ _ _ (found2 .given .1))
+
+returns-2 : tie.Need-returns-2 Inv-loop μ-loop
+unfolding planPart
+returns-2 c =
+    let args = c .before .before .before .before .args in
+    let loop = c .before .loop in
+    ap planPart (run-done (args .s .now) 0 (args .links) (withStep (args .s .now)) _ (loop .left) (loop .at) (loop .stage) (loop .plan) (loop .inv .2) (c .loop-test .left)) ∙ ap (λ (x : Plan). planPart (records (args .s .now) 0 (args .links) (withStep (args .s .now)) (args .count) (args .start) (args .first) x)) (c .before .before .empty .ensures)
+
+pub read-steps-spec : {M : Type 1} → statement M
+read-steps-spec =
+    tie.close
+    (tie.spec
+    Inv-loop
+    μ-loop
+    empty-requires
+    loop-holds
+    due-at-requires
+    enum-known-found
+    refused-plan-requires
+    returns
+    enum-known-found-2
+    cast-i
+    add-word-at
+    word-at-requires
+    mul-plan
+    element-write-plan
+    add-word-at-2
+    word-at-requires-2
+    element-write-plan-2
+    add-plan
+    cast-at
+    add-at
+    sub-left
+    loop-less
+    loop-again
+    returns-2)

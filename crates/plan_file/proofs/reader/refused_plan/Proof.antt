@@ -1,0 +1,16 @@
+-- `plan_file::reader::refused_plan` hands out the empty plan.
+-- Assumes nothing.
+use Rattle.plan_file.specs.Inputs.{planPart}
+use borrow.Author.Needs.{needs}
+use Rattle.plan_file.proofs.reader.refused_plan.Statement.{statement}
+use Rattle.plan_file.proofs.reader.refused_plan.Tie as tie
+
+empty-requires : tie.Need-empty-requires
+empty-requires c κs = search needs
+
+returns : tie.Need-returns
+unfolding planPart
+returns c = rw (c .empty .ensures)
+
+pub refused-plan-spec : {M : Type 1} → statement M
+refused-plan-spec = tie.close (tie.spec empty-requires returns)

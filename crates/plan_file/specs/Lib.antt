@@ -1,0 +1,3 @@
+pub mod PlanFiles
+pub mod Inputs
+pub mod Accepted

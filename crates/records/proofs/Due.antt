@@ -1,0 +1,345 @@
+-- What `recordAt` and `dueAt` promise of the record they find or refuse: where no rule of a list is broken, each of its tests is false, and the stage decides the kind.
+-- Assumes nothing.
+use mathlib.Core.Path.{_≡_, refl, sym, ap, subst, _∙_}
+use mathlib.Core.Bool.{Bool, true, false}
+use mathlib.Core.List.{List, [], _∷_, _++_}
+use Prim.Native.Nat.{ℕ, _+_, _-_, _<_, _≤_}
+use native.Mathlib.Omega.{arith}
+use lib.Dec.{eqb, ltb, leb}
+use lib.ListN.{length}
+use borrow.Author.Tests.{ltb-false, leb-false, eqb-true, eqb-false, not-false}
+use Rattle.network.specs.declared.refusal.Refusal.{Refusal}
+use Rattle.network.specs.declared.refusal.Rule.{Rule}
+use Rattle.network.specs.declared.refusal.Verdict.{Verdict}
+use Rattle.network.specs.declared.refusal.Verdict.the-variants.{Kept, Broken}
+use Rattle.network.specs.declared.stage.Stage.{Stage}
+use Rattle.network.specs.declared.stage.Stage.the-variants.{Head, Elements, Links, End, PlanHead, Steps, PlanEnd, Over}
+use Rattle.network.specs.declared.stage.Next.{Next}
+use Rattle.network.specs.declared.stage.Next.the-variants.{Go, Refused as Next·Refused}
+use Rattle.records.specs.declared.Found.the-variants.{Record, Refused}
+use Rattle.network.specs.Refusals.{Check, pick, firstBroken}
+use Rattle.network.specs.Stages.{leads, nextStage}
+use Rattle.records.specs.Records.{word, lengthField, kindField, lengthOf, either, isRefused, named, suits, foundBy, frameRules, headRules, elementRules, linkRules, planHeadRules, stepRules, fieldRules, recordRules, recordAt, dueAt}
+
+-- The first broken of two lists of rules.
+
+abbrev pub orElse : Verdict → Verdict → Verdict
+orElse Kept v = v
+orElse (Broken r) v = Broken r
+
+pub first-append : (a b : List Check) → firstBroken (a ++ b) ≡ orElse (firstBroken a) (firstBroken b)
+first-append [] b = refl
+first-append (c ∷ cs) b = rw (first-append cs b) (under (c .broken))
+  where
+    under : (t : Bool) →
+        pick t (Broken (c .rule)) (orElse (firstBroken cs) (firstBroken b)) ≡
+        orElse (pick t (Broken (c .rule)) (firstBroken cs)) (firstBroken b)
+    under true = refl
+    under false = refl
+
+-- Every test of a list is false.
+abbrev pub AllKept : List Check → Type 0
+AllKept [] = Unit
+AllKept (c ∷ cs) = (c .broken ≡ false) × AllKept cs
+
+pub all-kept : (cs : List Check) → firstBroken cs ≡ Kept → AllKept cs
+all-kept [] h = tt
+all-kept (c ∷ cs) h = go (c .broken) refl (all-kept cs)
+  where
+    go : (t : Bool) → c .broken ≡ t → (firstBroken cs ≡ Kept → AllKept cs) → AllKept (c ∷ cs)
+    go true e rest = let z : _≡_ {A = ℕ} 0 1 = cc (rw e at h) in absurd (omega arith)
+    go false e rest = (e, rest (rw e at h))
+
+or-else-kept : (u v : Verdict) → orElse u v ≡ Kept → (u ≡ Kept) × (v ≡ Kept)
+or-else-kept Kept v h = (refl, h)
+or-else-kept (Broken r) v h = let z : _≡_ {A = ℕ} 0 1 = cc in absurd (omega arith)
+
+pub first-append-kept : (a b : List Check) → firstBroken (a ++ b) ≡ Kept → (firstBroken a ≡ Kept) × (firstBroken b ≡ Kept)
+first-append-kept a b h = or-else-kept (firstBroken a) (firstBroken b) (sym (first-append a b) ∙ h)
+
+pub either-false : (a b : Bool) → either a b ≡ false → (a ≡ false) × (b ≡ false)
+either-false true b h = let z : _≡_ {A = ℕ} 0 1 = cc in absurd (omega arith)
+either-false false b h = (refl, h)
+
+-- One kind may come at each stage: the kind, its length, and the stage that it leads to.
+
+abbrev pub kindAt : Stage → ℕ
+kindAt Head = 1
+kindAt Elements = 2
+kindAt Links = 3
+kindAt End = 4
+kindAt PlanHead = 5
+kindAt Steps = 6
+kindAt PlanEnd = 4
+kindAt Over = 0
+
+abbrev pub longAt : Stage → ℕ
+longAt Head = 8
+longAt Elements = 10
+longAt Links = 12
+longAt End = 4
+longAt PlanHead = 6
+longAt Steps = 8
+longAt PlanEnd = 4
+longAt Over = 0
+
+abbrev pub nextAt : Stage → Stage
+nextAt Head = Elements
+nextAt Elements = Elements
+nextAt Links = Links
+nextAt End = PlanHead
+nextAt PlanHead = Steps
+nextAt Steps = Steps
+nextAt PlanEnd = Over
+nextAt Over = Over
+
+leads-go : (k n : ℕ) (st next : Stage) → leads (eqb k n) st ≡ Go next → (k ≡ n) × (next ≡ st)
+leads-go k n st next h = go (eqb k n) refl
+  where
+    go : (t : Bool) → eqb k n ≡ t → (k ≡ n) × (next ≡ st)
+    go true e = let q : leads true st ≡ Go next = rw e at h in (eqb-true k n e, cc)
+    go false e = let q : leads false st ≡ Go next = rw e at h in let z : _≡_ {A = ℕ} 0 1 = cc in absurd (omega arith)
+
+pub goes-one-way : (st : Stage) (k : ℕ) (next : Stage) → nextStage st k ≡ Go next → (k ≡ kindAt st) × (next ≡ nextAt st)
+unfolding nextStage
+goes-one-way Head k next h = leads-go k 1 Elements next h
+goes-one-way Elements k next h = leads-go k 2 Elements next h
+goes-one-way Links k next h = leads-go k 3 Links next h
+goes-one-way End k next h = leads-go k 4 PlanHead next h
+goes-one-way PlanHead k next h = leads-go k 5 Steps next h
+goes-one-way Steps k next h = leads-go k 6 Steps next h
+goes-one-way PlanEnd k next h = leads-go k 4 Over next h
+goes-one-way Over k next h = let z : _≡_ {A = ℕ} 0 1 = cc in absurd (omega arith)
+
+pub length-at : (st : Stage) → lengthOf (kindAt st) ≡ longAt st
+unfolding lengthOf
+length-at Head = refl
+length-at Elements = refl
+length-at Links = refl
+length-at End = refl
+length-at PlanHead = refl
+length-at Steps = refl
+length-at PlanEnd = refl
+length-at Over = refl
+
+-- no kind leads on from the last stage, so a record found is at least an end record long
+pub least-long : (st : Stage) (k : ℕ) (next : Stage) → nextStage st k ≡ Go next → 4 ≤ longAt st
+unfolding nextStage
+least-long Head k next h = omega arith
+least-long Elements k next h = omega arith
+least-long Links k next h = omega arith
+least-long End k next h = omega arith
+least-long PlanHead k next h = omega arith
+least-long Steps k next h = omega arith
+least-long PlanEnd k next h = omega arith
+least-long Over k next h = let z : _≡_ {A = ℕ} 0 1 = cc in absurd (omega arith)
+
+pick-most : (t : Bool) (a b : ℕ) → a ≤ 12 → b ≤ 12 → pick t a b ≤ 12
+pick-most true a b ha hb = ha
+pick-most false a b ha hb = hb
+
+-- no kind's records are longer than a link's
+pub length-most : (k : ℕ) → lengthOf k ≤ 12
+unfolding lengthOf
+length-most k =
+    pick-most (eqb k 1) 8 _ (omega arith)
+    (pick-most (eqb k 2) 10 _ (omega arith)
+    (pick-most (eqb k 3) 12 _ (omega arith)
+    (pick-most (eqb k 4) 4 _ (omega arith) (pick-most (eqb k 5) 6 _ (omega arith) (pick-most (eqb k 6) 8 0 (omega arith) (omega arith))))))
+
+-- What rules 1 to 4 promise of a record.
+pub record Framed (s : List ℕ) (at : ℕ) (stage : Stage) (kind long : ℕ) (next : Stage) : Type 0 where
+  pub kind-is : kind ≡ kindField s at
+  pub long-is : long ≡ lengthField s at
+  pub long-of : long ≡ lengthOf kind
+  pub goes : nextStage stage kind ≡ Go next
+  pub fits : at + long ≤ length s
+  pub least : 4 ≤ long
+  pub most : long ≤ 12
+  pub kind-at : kind ≡ kindAt stage
+  pub long-at : long ≡ longAt stage
+  pub next-at : next ≡ nextAt stage
+
+-- What rules 1 to 12 promise: the tests of rules 5 to 12 that speak of the stage's kind are false too.
+pub record Whole (s : List ℕ) (elements links at : ℕ) (stage : Stage) (kind long : ℕ) (next : Stage) : Type 0 where
+  pub framed : Framed s at stage kind long next
+  pub kept : firstBroken (recordRules s elements links at stage) ≡ Kept
+  pub fields : AllKept (fieldRules s at (kindAt stage) elements links)
+
+found-kept :
+    (s : List ℕ) (at : ℕ) (stage : Stage) (v : Verdict) (kind long : ℕ) (next : Stage) →
+    foundBy s at stage v ≡ Record kind long next →
+    (v ≡ Kept) × (kindField s at ≡ kind) × (lengthField s at ≡ long) × (named (nextStage stage (kindField s at)) stage ≡ next)
+found-kept s at stage Kept kind long next h = (refl, cc, cc, cc)
+found-kept s at stage (Broken r) kind long next h = let z : _≡_ {A = ℕ} 0 1 = cc in absurd (omega arith)
+
+found-refused :
+    (s : List ℕ) (at : ℕ) (stage : Stage) (v : Verdict) (r : Refusal) →
+    foundBy s at stage v ≡ Refused r →
+    (v ≡ Broken (r .rule)) × (r .place ≡ at)
+found-refused s at stage Kept r h = let z : _≡_ {A = ℕ} 0 1 = cc in absurd (omega arith)
+found-refused s at stage (Broken x) r h =
+    let q : _≡_ {A = Refusal} (record { rule = x; place = at }) r = cc in
+    (ap Broken (ap (λ (y : Refusal). y .rule) q), sym (ap (λ (y : Refusal). y .place) q))
+
+not-refused : (n : Next) (other : Stage) → isRefused n ≡ false → n ≡ Go (named n other)
+not-refused (Go st) other h = refl
+not-refused Next·Refused other h = let z : _≡_ {A = ℕ} 0 1 = cc in absurd (omega arith)
+
+framed-of :
+    (s : List ℕ) (at : ℕ) (stage : Stage) (kind long : ℕ) (next : Stage) →
+    AllKept (frameRules s at stage) →
+    kindField s at ≡ kind →
+    lengthField s at ≡ long →
+    named (nextStage stage (kindField s at)) stage ≡ next →
+    Framed s at stage kind long next
+unfolding frameRules
+framed-of s at stage kind long next h hk hl hn =
+    let goes : nextStage stage kind ≡ Go next = cc (not-refused (nextStage stage (kindField s at)) stage (h .1 .0)) in
+    let one = goes-one-way stage kind next goes in
+    let right : lengthField s at ≡ lengthOf (kindField s at) = eqb-true _ _ (not-false _ (h .1 .1 .0)) in
+    let long-at : long ≡ longAt stage = cc (length-at stage) in
+    let least : 4 ≤ longAt stage = least-long stage kind next goes in
+    let enough : lengthField s at ≤ length s - at = ltb-false (length s - at) (lengthField s at) (h .1 .1 .1 .0) in
+    record {
+      kind-is = sym hk;
+      long-is = sym hl;
+      long-of = cc;
+      goes = goes;
+      fits = omega arith;
+      least = omega arith;
+      most = omega (arith, length-at stage, length-most (kindAt stage));
+      kind-at = one .0;
+      long-at = long-at;
+      next-at = one .1;
+    }
+
+module _ (s : List ℕ) (at : ℕ) (stage : Stage) where
+  pub frame-kept : {kind long : ℕ} {next : Stage} → recordAt s at stage ≡ Record kind long next → Framed s at stage kind long next
+  unfolding recordAt
+  frame-kept {kind} {long} {next} h =
+      let f = found-kept s at stage (firstBroken (frameRules s at stage)) kind long next h in
+      framed-of s at stage kind long next (all-kept (frameRules s at stage) (f .0)) (f .1) (f .2) (f .3)
+
+  pub frame-refused :
+      {r : Refusal} → recordAt s at stage ≡ Refused r → (firstBroken (frameRules s at stage) ≡ Broken (r .rule)) × (r .place ≡ at)
+  unfolding recordAt
+  frame-refused {r} h = found-refused s at stage (firstBroken (frameRules s at stage)) r h
+
+module _ (s : List ℕ) (elements links at : ℕ) (stage : Stage) where
+  pub due-kept : {kind long : ℕ} {next : Stage} → dueAt s elements links at stage ≡ Record kind long next → Whole s elements links at stage kind long next
+  unfolding dueAt recordRules
+  due-kept {kind} {long} {next} h =
+      let f = found-kept s at stage (firstBroken (recordRules s elements links at stage)) kind long next h in
+      let both = first-append-kept (frameRules s at stage) (fieldRules s at (kindField s at) elements links) (f .0) in
+      let frame = framed-of s at stage kind long next (all-kept (frameRules s at stage) (both .0)) (f .1) (f .2) (f .3) in
+      let kinds : kindField s at ≡ kindAt stage = f .1 ∙ frame .kind-at in
+      record {
+        framed = frame;
+        kept = f .0;
+        fields =
+            subst (λ (k : ℕ). AllKept (fieldRules s at k elements links)) kinds
+            (all-kept (fieldRules s at (kindField s at) elements links) (both .1));
+      }
+
+  pub due-refused :
+      {r : Refusal} →
+      dueAt s elements links at stage ≡ Refused r →
+      (firstBroken (recordRules s elements links at stage) ≡ Broken (r .rule)) × (r .place ≡ at)
+  unfolding dueAt
+  due-refused {r} h = found-refused s at stage (firstBroken (recordRules s elements links at stage)) r h
+
+  -- `dueAt` is `recordAt`, then the rules of the kind
+  pub due-frame-refused : (r : Refusal) → recordAt s at stage ≡ Refused r → dueAt s elements links at stage ≡ Refused r
+  unfolding recordAt dueAt recordRules
+  due-frame-refused r h =
+      let f = found-refused s at stage (firstBroken (frameRules s at stage)) r h in
+      ap (foundBy s at stage)
+      (first-append (frameRules s at stage) (fieldRules s at (kindField s at) elements links) ∙
+      ap (λ (v : Verdict). orElse v (firstBroken (fieldRules s at (kindField s at) elements links))) (f .0)) ∙
+      ap (λ (p : ℕ). Refused (record { rule = r .rule; place = p })) (sym (f .1))
+
+  pub due-fields :
+      (kind long : ℕ) (next : Stage) →
+      recordAt s at stage ≡ Record kind long next →
+      dueAt s elements links at stage ≡ foundBy s at stage (firstBroken (fieldRules s at kind elements links))
+  unfolding recordAt dueAt recordRules
+  due-fields kind long next h =
+      let f = found-kept s at stage (firstBroken (frameRules s at stage)) kind long next h in
+      ap (foundBy s at stage)
+      (first-append (frameRules s at stage) (fieldRules s at (kindField s at) elements links) ∙
+      ap (λ (v : Verdict). orElse v (firstBroken (fieldRules s at (kindField s at) elements links))) (f .0) ∙
+      ap (λ (k : ℕ). firstBroken (fieldRules s at k elements links)) (f .1))
+
+  pub due-fields-kept :
+      (kind long : ℕ) (next : Stage) →
+      recordAt s at stage ≡ Record kind long next →
+      firstBroken (fieldRules s at kind elements links) ≡ Kept →
+      dueAt s elements links at stage ≡ Record kind long next
+  unfolding recordAt
+  due-fields-kept kind long next h e =
+      let f = found-kept s at stage (firstBroken (frameRules s at stage)) kind long next h in
+      due-fields kind long next h ∙ ap (foundBy s at stage) (e ∙ sym (f .0)) ∙ h
+
+  pub due-fields-broken :
+      (kind long : ℕ) (next : Stage) (r : Rule) →
+      recordAt s at stage ≡ Record kind long next →
+      firstBroken (fieldRules s at kind elements links) ≡ Broken r →
+      dueAt s elements links at stage ≡ Refused (record { rule = r; place = at })
+  due-fields-broken kind long next r h e = due-fields kind long next h ∙ ap (foundBy s at stage) e
+
+-- What rules 5 to 12 promise of a record at each stage.
+
+module _ {s : List ℕ} {elements links at kind long : ℕ} {next : Stage} where
+  pub head-kept :
+      Whole s elements links at Head kind long next →
+      record { some : 1 ≤ word s (at + 4); elements-fit : word s (at + 4) ≤ 64; links-fit : word s (at + 6) ≤ 96 }
+  unfolding fieldRules headRules
+  head-kept w =
+      let t = either-false (eqb (word s (at + 4)) 0) (either (ltb 64 (word s (at + 4))) (ltb 96 (word s (at + 6)))) (w .fields .0) in
+      let u = either-false (ltb 64 (word s (at + 4))) (ltb 96 (word s (at + 6))) (t .1) in
+      let ne : (word s (at + 4) ≡ 0) → ⊥ = eqb-false (word s (at + 4)) 0 (t .0) in
+      record {
+        some = omega arith;
+        elements-fit = ltb-false 64 (word s (at + 4)) (u .0);
+        links-fit = ltb-false 96 (word s (at + 6)) (u .1);
+      }
+
+  pub element-kept : Whole s elements links at Elements kind long next → word s (at + 8) ≤ 3
+  unfolding fieldRules elementRules
+  element-kept w = ltb-false 3 (word s (at + 8)) (w .fields .0)
+
+  pub link-kept :
+      Whole s elements links at Links kind long next →
+      record {
+        from-in : word s (at + 4) < elements;
+        to-in : word s (at + 6) < elements;
+        differ : word s (at + 4) ≡ word s (at + 6) → ⊥;
+        form-in : word s (at + 8) ≤ 2;
+        suited : suits (word s (at + 8)) (word s (at + 10)) ≡ true;
+      }
+  unfolding fieldRules linkRules
+  link-kept w =
+      let t = either-false (leb elements (word s (at + 4))) (either (leb elements (word s (at + 6))) (eqb (word s (at + 4)) (word s (at + 6)))) (w .fields .0) in
+      let u = either-false (leb elements (word s (at + 6))) (eqb (word s (at + 4)) (word s (at + 6))) (t .1) in
+      record {
+        from-in = leb-false elements (word s (at + 4)) (t .0);
+        to-in = leb-false elements (word s (at + 6)) (u .0);
+        differ = eqb-false (word s (at + 4)) (word s (at + 6)) (u .1);
+        form-in = ltb-false 2 (word s (at + 8)) (w .fields .1 .0);
+        suited = not-false (suits (word s (at + 8)) (word s (at + 10))) (w .fields .1 .1 .0);
+      }
+
+  pub plan-head-kept : Whole s elements links at PlanHead kind long next → word s (at + 4) ≤ 255
+  unfolding fieldRules planHeadRules
+  plan-head-kept w = ltb-false 255 (word s (at + 4)) (w .fields .0)
+
+  pub step-kept :
+      Whole s elements links at Steps kind long next →
+      record { link-in : word s (at + 4) < links; state-in : word s (at + 6) ≤ 1 }
+  unfolding fieldRules stepRules
+  step-kept w =
+      record {
+        link-in = leb-false links (word s (at + 4)) (w .fields .0);
+        state-in = ltb-false 1 (word s (at + 6)) (w .fields .1 .0);
+      }
