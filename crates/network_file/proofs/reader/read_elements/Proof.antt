@@ -3,6 +3,7 @@
 use mathlib.Core.Path.{_≡_, refl, ap, _∙_}
 use Prim.Native.Nat.{_+_, _-_, _≤_}
 use native.Mathlib.Omega.{arith}
+use lib.ListN.{length}
 use Rattle.network.specs.declared.Network.{Network}
 use Rattle.network.specs.declared.stage.Stage.the-variants.{Elements}
 use Rattle.network.specs.Networks.{emptyNetwork}
@@ -44,25 +45,32 @@ returns : tie.Need-returns Inv-loop μ-loop
 returns c =
     let args = c .before .before .before .before .before .before .before .before .before .args in
     let loop = c .before .before .before .before .before .before .loop in
-    let loop-test = c .before .before .before .before .before .loop-test in
     let due-at = c .before .before .before .before .due-at in
     let empty = c .before .before .before .before .before .before .before .empty in
-    c .refused-network .ensures ∙ ap networkPart (run-refused (args .s .now) 0 0 (withElement (args .s .now)) _ (loop .left) (loop .at) (loop .stage) (loop .net) (loop .inv .2) _ (loop-test .taken) (due-at .ensures) _ (c .before .before .found .given .1)) ∙ ap (λ (x : Network). networkPart (records (args .s .now) 0 0 (withElement (args .s .now)) (args .count) (args .start) (args .first) x)) (empty .ensures)
+    c .refused-network .ensures ∙
+    ap networkPart
+    (run-refused (args .s .now) 0 0 (withElement (args .s .now)) _ (loop .left) (loop .at) (loop .stage) (loop .net) (loop .inv .2) _ (omega arith) (due-at .ensures) _ (c .before .before .found .given .1)) ∙
+    ap (λ (x : Network). networkPart (records (args .s .now) 0 0 (withElement (args .s .now)) (args .count) (args .start) (args .first) x)) (empty .ensures)
 
 enum-known-found-2 : tie.Need-enum-known-found-2 Inv-loop μ-loop
 enum-known-found-2 c = search needs
 
-add-word-at : tie.Need-add-word-at Inv-loop μ-loop
-add-word-at c =
+-- the record found in a turn: it fits, and the stage gives its length and what comes next
+turn :
+    (c : tie.After-known-told2 Inv-loop μ-loop) →
+    let s = c .before .before .before .before .before .before .before .before .args .s .now in
+    let found = c .before .found2 .given .0 in
+    (c .before .before .before .before .before .loop .at + found .1 .0 ≤ length s) × (found .1 .0 ≡ 10) × (found .1 .1 .0 ≡ Elements)
+turn c =
     let args = c .before .before .before .before .before .before .before .before .args in
     let loop = c .before .before .before .before .before .loop in
-    let w = turn-whole (args .s .now) 0 0 (loop .at) (loop .stage) Elements _ _ _ _ (c .before .before .before .due-at .ensures) (loop .inv .0) (c .before .found2 .given .1) in omega arith
+    turn-whole (args .s .now) 0 0 (loop .at) (loop .stage) Elements _ _ _ _ (c .before .before .before .due-at .ensures) (loop .inv .0) (c .before .found2 .given .1)
+
+add-word-at : tie.Need-add-word-at Inv-loop μ-loop
+add-word-at c = let w = turn c in omega arith
 
 word-at-requires : tie.Need-word-at-requires Inv-loop μ-loop
-word-at-requires c κs =
-    let args = c .before .before .before .before .before .before .before .before .args in
-    let loop = c .before .before .before .before .before .loop in
-    let w = turn-whole (args .s .now) 0 0 (loop .at) (loop .stage) Elements _ _ _ _ (c .before .before .before .due-at .ensures) (loop .inv .0) (c .before .found2 .given .1) in omega arith
+word-at-requires c κs = let w = turn c in omega arith
 
 cast-net : tie.Need-cast-net Inv-loop μ-loop
 cast-net c = omega arith
@@ -74,18 +82,10 @@ element-write-net : tie.Need-element-write-net Inv-loop μ-loop
 element-write-net c = omega arith
 
 add-word-at-2 : tie.Need-add-word-at-2 Inv-loop μ-loop
-add-word-at-2 c =
-    let args = c .before .before .before .before .before .before .before .before .before .args in
-    let loop = c .before .before .before .before .before .before .loop in
-    let due-at = c .before .before .before .before .due-at in
-    let w = turn-whole (args .s .now) 0 0 (loop .at) (loop .stage) Elements _ _ _ _ (due-at .ensures) (loop .inv .0) (c .before .before .found2 .given .1) in omega arith
+add-word-at-2 c = let w = turn (c .before) in omega arith
 
 word-at-requires-2 : tie.Need-word-at-requires-2 Inv-loop μ-loop
-word-at-requires-2 c κs =
-    let args = c .before .before .before .before .before .before .before .before .before .args in
-    let loop = c .before .before .before .before .before .before .loop in
-    let due-at = c .before .before .before .before .due-at in
-    let w = turn-whole (args .s .now) 0 0 (loop .at) (loop .stage) Elements _ _ _ _ (due-at .ensures) (loop .inv .0) (c .before .before .found2 .given .1) in omega arith
+word-at-requires-2 c κs = let w = turn (c .before) in omega arith
 
 cast-net-2 : tie.Need-cast-net-2 Inv-loop μ-loop
 cast-net-2 c = omega arith
@@ -97,18 +97,10 @@ element-write-net-2 : tie.Need-element-write-net-2 Inv-loop μ-loop
 element-write-net-2 c = omega arith
 
 add-word-at-3 : tie.Need-add-word-at-3 Inv-loop μ-loop
-add-word-at-3 c =
-    let args = c .before .before .before .before .before .before .before .before .before .before .args in
-    let loop = c .before .before .before .before .before .before .before .loop in
-    let due-at = c .before .before .before .before .before .due-at in
-    let w = turn-whole (args .s .now) 0 0 (loop .at) (loop .stage) Elements _ _ _ _ (due-at .ensures) (loop .inv .0) (c .before .before .before .found2 .given .1) in omega arith
+add-word-at-3 c = let w = turn (c .before .before) in omega arith
 
 word-at-requires-3 : tie.Need-word-at-requires-3 Inv-loop μ-loop
-word-at-requires-3 c κs =
-    let args = c .before .before .before .before .before .before .before .before .before .before .args in
-    let loop = c .before .before .before .before .before .before .before .loop in
-    let due-at = c .before .before .before .before .before .due-at in
-    let w = turn-whole (args .s .now) 0 0 (loop .at) (loop .stage) Elements _ _ _ _ (due-at .ensures) (loop .inv .0) (c .before .before .before .found2 .given .1) in omega arith
+word-at-requires-3 c κs = let w = turn (c .before .before) in omega arith
 
 mul-net-3 : tie.Need-mul-net-3 Inv-loop μ-loop
 mul-net-3 c = omega arith
@@ -123,12 +115,7 @@ cast-at : tie.Need-cast-at Inv-loop μ-loop
 cast-at c = search needs
 
 add-at : tie.Need-add-at Inv-loop μ-loop
-add-at c =
-    let args = c .before .before .before .before .before .before .before .before .before .before .before .args in
-    let loop = c .before .before .before .before .before .before .before .before .loop in
-    let due-at = c .before .before .before .before .before .before .due-at in
-    let found2 = c .before .before .before .before .found2 in
-    let w = turn-whole (args .s .now) 0 0 (loop .at) (loop .stage) Elements _ _ _ _ (due-at .ensures) (loop .inv .0) (found2 .given .1) in omega arith
+add-at c = let w = turn (c .before .before .before) in omega arith
 
 sub-left : tie.Need-sub-left Inv-loop μ-loop
 sub-left c = omega arith
@@ -142,15 +129,22 @@ loop-again c =
     let loop = c .before .before .before .before .before .before .before .before .loop in
     let due-at = c .before .before .before .before .before .before .due-at in
     let found2 = c .before .before .before .before .found2 in
-    let loop-test = c .before .before .before .before .before .before .before .loop-test in
-    let w = turn-whole (args .s .now) 0 0 (loop .at) (loop .stage) Elements _ _ _ _ (due-at .ensures) (loop .inv .0) (found2 .given .1) in (w .2, omega arith, ap (records (args .s .now) 0 0 (withElement (args .s .now)) (loop .left - 1) _ _) (element-taken (args .s .now) (loop .at) (loop .net) _ _ _ (c .before .before .word-at .ensures) (c .before .word-at2 .ensures) (c .word-at3 .ensures)) ∙ run-turn (args .s .now) 0 0 (withElement (args .s .now)) _ (loop .left) (loop .at) (loop .stage) (loop .net) (loop .inv .2) _ (loop-test .taken) (due-at .ensures) _ _ _ (found2 .given .1))
+    let w = turn (c .before .before .before) in (
+      w .2,
+      omega arith,
+      ap (records (args .s .now) 0 0 (withElement (args .s .now)) (loop .left - 1) _ _)
+          (element-taken (args .s .now) (loop .at) (loop .net) _ _ _ (c .before .before .word-at .ensures) (c .before .word-at2 .ensures) (c .word-at3 .ensures)) ∙
+          run-turn (args .s .now) 0 0 (withElement (args .s .now)) _ (loop .left) (loop .at) (loop .stage) (loop .net) (loop .inv .2) _ (omega arith) (due-at .ensures) _ _ _ (found2 .given .1),
+    )
 
 returns-2 : tie.Need-returns-2 Inv-loop μ-loop
 unfolding networkPart
 returns-2 c =
     let args = c .before .before .before .before .args in
     let loop = c .before .loop in
-    ap networkPart (run-done (args .s .now) 0 0 (withElement (args .s .now)) _ (loop .left) (loop .at) (loop .stage) (loop .net) (loop .inv .2) (c .loop-test .left)) ∙ ap (λ (x : Network). networkPart (records (args .s .now) 0 0 (withElement (args .s .now)) (args .count) (args .start) (args .first) x)) (c .before .before .empty .ensures)
+    ap networkPart
+    (run-done (args .s .now) 0 0 (withElement (args .s .now)) _ (loop .left) (loop .at) (loop .stage) (loop .net) (loop .inv .2) (c .loop-test .left)) ∙
+    ap (λ (x : Network). networkPart (records (args .s .now) 0 0 (withElement (args .s .now)) (args .count) (args .start) (args .first) x)) (c .before .before .empty .ensures)
 
 pub read-elements-spec : {M : Type 1} → statement M
 read-elements-spec =

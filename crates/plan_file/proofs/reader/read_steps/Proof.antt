@@ -3,6 +3,7 @@
 use mathlib.Core.Path.{_≡_, refl, ap, _∙_}
 use Prim.Native.Nat.{_+_, _-_, _≤_}
 use native.Mathlib.Omega.{arith}
+use lib.ListN.{length}
 use Rattle.plan_file.specs.declared.plan.Plan.{Plan}
 use Rattle.network.specs.declared.stage.Stage.the-variants.{Steps}
 use Rattle.network_file.specs.Runs.{records}
@@ -43,10 +44,12 @@ returns : tie.Need-returns Inv-loop μ-loop
 returns c =
     let args = c .before .before .before .before .before .before .before .before .before .args in
     let loop = c .before .before .before .before .before .before .loop in
-    let loop-test = c .before .before .before .before .before .loop-test in
     let due-at = c .before .before .before .before .due-at in
     let empty = c .before .before .before .before .before .before .before .empty in
-    c .refused-plan .ensures ∙ ap planPart (run-refused (args .s .now) 0 (args .links) (withStep (args .s .now)) _ (loop .left) (loop .at) (loop .stage) (loop .plan) (loop .inv .2) _ (loop-test .taken) (due-at .ensures) _ (c .before .before .found .given .1)) ∙ ap (λ (x : Plan). planPart (records (args .s .now) 0 (args .links) (withStep (args .s .now)) (args .count) (args .start) (args .first) x)) (empty .ensures)
+    c .refused-plan .ensures ∙
+    ap planPart
+    (run-refused (args .s .now) 0 (args .links) (withStep (args .s .now)) _ (loop .left) (loop .at) (loop .stage) (loop .plan) (loop .inv .2) _ (omega arith) (due-at .ensures) _ (c .before .before .found .given .1)) ∙
+    ap (λ (x : Plan). planPart (records (args .s .now) 0 (args .links) (withStep (args .s .now)) (args .count) (args .start) (args .first) x)) (empty .ensures)
 
 enum-known-found-2 : tie.Need-enum-known-found-2 Inv-loop μ-loop
 enum-known-found-2 c = search needs
@@ -54,17 +57,22 @@ enum-known-found-2 c = search needs
 cast-i : tie.Need-cast-i Inv-loop μ-loop
 cast-i c = omega arith
 
-add-word-at : tie.Need-add-word-at Inv-loop μ-loop
-add-word-at c =
+-- the record found in a turn: it fits, and the stage gives its length and what comes next
+turn :
+    (c : tie.After-known-told2 Inv-loop μ-loop) →
+    let s = c .before .before .before .before .before .before .before .before .args .s .now in
+    let found = c .before .found2 .given .0 in
+    (c .before .before .before .before .before .loop .at + found .1 .0 ≤ length s) × (found .1 .0 ≡ 8) × (found .1 .1 .0 ≡ Steps)
+turn c =
     let args = c .before .before .before .before .before .before .before .before .args in
     let loop = c .before .before .before .before .before .loop in
-    let w = turn-whole (args .s .now) 0 (args .links) (loop .at) (loop .stage) Steps _ _ _ _ (c .before .before .before .due-at .ensures) (loop .inv .0) (c .before .found2 .given .1) in omega arith
+    turn-whole (args .s .now) 0 (args .links) (loop .at) (loop .stage) Steps _ _ _ _ (c .before .before .before .due-at .ensures) (loop .inv .0) (c .before .found2 .given .1)
+
+add-word-at : tie.Need-add-word-at Inv-loop μ-loop
+add-word-at c = let w = turn c in omega arith
 
 word-at-requires : tie.Need-word-at-requires Inv-loop μ-loop
-word-at-requires c κs =
-    let args = c .before .before .before .before .before .before .before .before .args in
-    let loop = c .before .before .before .before .before .loop in
-    let w = turn-whole (args .s .now) 0 (args .links) (loop .at) (loop .stage) Steps _ _ _ _ (c .before .before .before .due-at .ensures) (loop .inv .0) (c .before .found2 .given .1) in omega arith
+word-at-requires c κs = let w = turn c in omega arith
 
 mul-plan : tie.Need-mul-plan Inv-loop μ-loop
 mul-plan c = omega arith
@@ -73,18 +81,10 @@ element-write-plan : tie.Need-element-write-plan Inv-loop μ-loop
 element-write-plan c = omega arith
 
 add-word-at-2 : tie.Need-add-word-at-2 Inv-loop μ-loop
-add-word-at-2 c =
-    let args = c .before .before .before .before .before .before .before .before .before .args in
-    let loop = c .before .before .before .before .before .before .loop in
-    let due-at = c .before .before .before .before .due-at in
-    let w = turn-whole (args .s .now) 0 (args .links) (loop .at) (loop .stage) Steps _ _ _ _ (due-at .ensures) (loop .inv .0) (c .before .before .found2 .given .1) in omega arith
+add-word-at-2 c = let w = turn (c .before) in omega arith
 
 word-at-requires-2 : tie.Need-word-at-requires-2 Inv-loop μ-loop
-word-at-requires-2 c κs =
-    let args = c .before .before .before .before .before .before .before .before .before .args in
-    let loop = c .before .before .before .before .before .before .loop in
-    let due-at = c .before .before .before .before .due-at in
-    let w = turn-whole (args .s .now) 0 (args .links) (loop .at) (loop .stage) Steps _ _ _ _ (due-at .ensures) (loop .inv .0) (c .before .before .found2 .given .1) in omega arith
+word-at-requires-2 c κs = let w = turn (c .before) in omega arith
 
 element-write-plan-2 : tie.Need-element-write-plan-2 Inv-loop μ-loop
 element-write-plan-2 c = omega arith
@@ -96,11 +96,7 @@ cast-at : tie.Need-cast-at Inv-loop μ-loop
 cast-at c = search needs
 
 add-at : tie.Need-add-at Inv-loop μ-loop
-add-at c =
-    let args = c .before .before .before .before .before .before .before .before .before .before .args in
-    let loop = c .before .before .before .before .before .before .before .loop in
-    let due-at = c .before .before .before .before .before .due-at in
-    let w = turn-whole (args .s .now) 0 (args .links) (loop .at) (loop .stage) Steps _ _ _ _ (due-at .ensures) (loop .inv .0) (c .before .before .before .found2 .given .1) in omega arith
+add-at c = let w = turn (c .before .before) in omega arith
 
 sub-left : tie.Need-sub-left Inv-loop μ-loop
 sub-left c = omega arith
@@ -114,15 +110,22 @@ loop-again c =
     let loop = c .before .before .before .before .before .before .before .loop in
     let due-at = c .before .before .before .before .before .due-at in
     let found2 = c .before .before .before .found2 in
-    let loop-test = c .before .before .before .before .before .before .loop-test in
-    let w = turn-whole (args .s .now) 0 (args .links) (loop .at) (loop .stage) Steps _ _ _ _ (due-at .ensures) (loop .inv .0) (found2 .given .1) in (w .2, omega arith, ap (records (args .s .now) 0 (args .links) (withStep (args .s .now)) (loop .left - 1) _ _) (step-taken (args .s .now) (loop .at) (loop .plan) _ _ (c .before .word-at .ensures) (c .word-at2 .ensures)) ∙ run-turn (args .s .now) 0 (args .links) (withStep (args .s .now)) _ (loop .left) (loop .at) (loop .stage) (loop .plan) (loop .inv .2) _ (loop-test .taken) (due-at .ensures) _ _ _ (found2 .given .1))
+    let w = turn (c .before .before) in (
+      w .2,
+      omega arith,
+      ap (records (args .s .now) 0 (args .links) (withStep (args .s .now)) (loop .left - 1) _ _)
+          (step-taken (args .s .now) (loop .at) (loop .plan) _ _ (c .before .word-at .ensures) (c .word-at2 .ensures)) ∙
+          run-turn (args .s .now) 0 (args .links) (withStep (args .s .now)) _ (loop .left) (loop .at) (loop .stage) (loop .plan) (loop .inv .2) _ (omega arith) (due-at .ensures) _ _ _ (found2 .given .1),
+    )
 
 returns-2 : tie.Need-returns-2 Inv-loop μ-loop
 unfolding planPart
 returns-2 c =
     let args = c .before .before .before .before .args in
     let loop = c .before .loop in
-    ap planPart (run-done (args .s .now) 0 (args .links) (withStep (args .s .now)) _ (loop .left) (loop .at) (loop .stage) (loop .plan) (loop .inv .2) (c .loop-test .left)) ∙ ap (λ (x : Plan). planPart (records (args .s .now) 0 (args .links) (withStep (args .s .now)) (args .count) (args .start) (args .first) x)) (c .before .before .empty .ensures)
+    ap planPart
+    (run-done (args .s .now) 0 (args .links) (withStep (args .s .now)) _ (loop .left) (loop .at) (loop .stage) (loop .plan) (loop .inv .2) (c .loop-test .left)) ∙
+    ap (λ (x : Plan). planPart (records (args .s .now) 0 (args .links) (withStep (args .s .now)) (args .count) (args .start) (args .first) x)) (c .before .before .empty .ensures)
 
 pub read-steps-spec : {M : Type 1} → statement M
 read-steps-spec =
