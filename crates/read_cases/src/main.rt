@@ -167,7 +167,7 @@ const PLAN_ALONE: u8 = 3;
 
 const CASE_COUNT: usize = 45;
 
-// Input, length, and twice a position with the byte put there.
+// Input, length, and twice a position with the byte put there. A line of the output is such a row and what it gets.
 const CASES: [[u8; 6]; 45] = [
     [NETWORK, 122, NO, 0, NO, 0],
     [BOTH, 140, NO, 0, NO, 0],
@@ -220,7 +220,9 @@ fn text(bytes: &[u8]) {
     io::write_all(STDOUT_FILENO, bytes);
 }
 
-fn number(n: usize) {
+// A blank and a number.
+fn field(n: usize) {
+    io::write_all(STDOUT_FILENO, b" ");
     io::print_decimal(STDOUT_FILENO, n as u64);
 }
 
@@ -236,18 +238,28 @@ fn wide32(n: u32) -> usize {
     n as usize
 }
 
-// A blank and a number.
-fn field(n: usize) {
-    text(b" ");
-    number(n);
+fn end_line() {
+    io::write_all(STDOUT_FILENO, b"\n");
 }
 
 fn show_refusal(refusal: Refusal) {
-    text(b"REFUSED");
+    text(b" REFUSED");
     let rule = refusal.rule;
-    field(refusal::number(rule) as usize);
+    field(wide(refusal::number(rule)));
     field(refusal.place);
-    text(b"\n");
+}
+
+fn show_answer(answer: Answer, elements: usize, links: usize, steps: usize) {
+    match answer {
+        Answer::Refused(refusal) => show_refusal(refusal),
+        Answer::Accepted => {
+            text(b" ACCEPTED");
+            field(elements);
+            field(links);
+            field(steps);
+        }
+    }
+    end_line();
 }
 
 // The file with a byte changed; a position past it changes nothing.
@@ -260,126 +272,67 @@ fn changed(file: [u8; 141], at: u8, byte: u8) -> [u8; 141] {
     bytes
 }
 
-fn show_change(at: u8, byte: u8) {
-    if at < 141 {
-        field(at as usize);
-        text(b"=");
-        number(byte as usize);
-    }
+fn try_network(bytes: &[u8]) {
+    let read = network_file::read_network(bytes);
+    let answer = read.answer;
+    let net = read.net;
+    show_answer(answer, net.elements, net.links, 0);
 }
 
-fn show_input(input: u8) {
+fn try_both(bytes: &[u8]) {
+    let read = plan_file::read_network_and_plan(bytes);
+    let answer = read.answer;
+    let net = read.net;
+    let plan = read.plan;
+    show_answer(answer, net.elements, net.links, wide(plan.steps));
+}
+
+fn try_plan(bytes: &[u8], at: usize) {
+    let read = plan_file::read_plan(bytes, at, 5);
+    let answer = read.answer;
+    let plan = read.plan;
+    show_answer(answer, 0, 0, wide(plan.steps));
+}
+
+fn try_input(input: u8, bytes: &[u8]) {
     match input {
-        0 => text(b"network"),
-        1 => text(b"both"),
-        2 => text(b"plan behind"),
-        _ => text(b"plan alone"),
+        0 => try_network(bytes),
+        1 => try_both(bytes),
+        2 => try_plan(bytes, 122),
+        _ => try_plan(bytes, 0),
     }
 }
 
-fn show_case(case: [u8; 6]) {
-    show_input(case[0]);
-    field(case[1] as usize);
-    show_change(case[2], case[3]);
-    show_change(case[4], case[5]);
-    text(b": ");
-}
-
-fn try_network(bytes: [u8; 141], from: usize, length: usize) {
-    if length < from {
+// What stands in the file from one position to another, as one of the inputs.
+fn try_part(input: u8, bytes: [u8; 141], from: usize, to: usize) {
+    if to < from {
         return;
     }
-    if 141 < length {
+    if 141 < to {
         return;
     }
-    let read = network_file::read_network(&bytes[from..length]);
-    let answer = read.answer;
-    match answer {
-        Answer::Refused(refusal) => show_refusal(refusal),
-        Answer::Accepted => {
-            let net = read.net;
-            text(b"ACCEPTED");
-            field(net.elements);
-            field(net.links);
-            text(b"\n");
-        }
-    }
-}
-
-fn try_both(bytes: [u8; 141], from: usize, length: usize) {
-    if length < from {
-        return;
-    }
-    if 141 < length {
-        return;
-    }
-    let read = plan_file::read_network_and_plan(&bytes[from..length]);
-    let answer = read.answer;
-    match answer {
-        Answer::Refused(refusal) => show_refusal(refusal),
-        Answer::Accepted => {
-            let net = read.net;
-            let plan = read.plan;
-            text(b"ACCEPTED");
-            field(net.elements);
-            field(net.links);
-            field(plan.steps as usize);
-            text(b"\n");
-        }
-    }
-}
-
-// The plan file at an offset of what stands from a position on.
-fn try_plan(bytes: [u8; 141], from: usize, length: usize, at: usize) {
-    if length < from {
-        return;
-    }
-    if 141 < length {
-        return;
-    }
-    let read = plan_file::read_plan(&bytes[from..length], at, 5);
-    let answer = read.answer;
-    match answer {
-        Answer::Refused(refusal) => show_refusal(refusal),
-        Answer::Accepted => {
-            let plan = read.plan;
-            text(b"ACCEPTED");
-            field(plan.steps as usize);
-            field(plan.link[0] as usize);
-            if plan.close[0] {
-                text(b" close\n");
-            } else {
-                text(b" open\n");
-            }
-        }
-    }
-}
-
-fn try_case(case: [u8; 6]) {
-    show_case(case);
-    let bytes = changed(changed(FILE, case[2], case[3]), case[4], case[5]);
-    let length = case[1] as usize;
-    let input = case[0];
-    match input {
-        0 => try_network(bytes, 0, length),
-        1 => try_both(bytes, 0, length),
-        2 => try_plan(bytes, 0, length, 122),
-        _ => try_plan(bytes, 122, length, 0),
-    }
-}
-
-fn show_byte(bytes: &[u8], i: usize) {
-    if i < bytes.len() {
-        field(wide(bytes[i]));
-    }
+    try_input(input, &bytes[from..to]);
 }
 
 fn show_bytes(bytes: &[u8]) {
     let mut i = 0;
     while i < bytes.len() {
-        show_byte(bytes, i);
+        field(wide(bytes[i]));
         i += 1;
     }
+}
+
+fn try_case(case: [u8; 6]) {
+    show_bytes(&case);
+    text(b":");
+    let bytes = changed(changed(FILE, case[2], case[3]), case[4], case[5]);
+    let input = case[0];
+    let to = wide(case[1]);
+    let mut from: usize = 0;
+    if input == PLAN_ALONE {
+        from = 122;
+    }
+    try_part(input, bytes, from, to);
 }
 
 // The plan written into the first bytes of a buffer, and the whole buffer then.
@@ -388,18 +341,14 @@ fn write_into(plan: Plan, buffer: &mut [u8], length: usize) {
         return;
     }
     text(b"write");
-    field(length);
-    text(b": ");
     let written = plan_writer::write_plan(plan, &mut buffer[..length]);
     match written {
         Written::Refused(refusal) => show_refusal(refusal),
-        Written::Bytes(n) => {
-            number(n);
-            text(b"\n");
-        }
+        Written::Bytes(n) => field(n),
     }
+    text(b":");
     show_bytes(buffer);
-    text(b"\n");
+    end_line();
 }
 
 fn try_write(plan: Plan, length: usize) {
@@ -407,16 +356,41 @@ fn try_write(plan: Plan, length: usize) {
     write_into(plan, &mut buffer, length);
 }
 
-// An element of the network, as its file states it.
+fn show_row(name: &[u8], i: usize, a: usize, b: usize, c: usize, d: usize) {
+    text(name);
+    field(i);
+    field(a);
+    field(b);
+    field(c);
+    field(d);
+    end_line();
+}
+
+// An element of the network as its file states it: load, capacity, flags, and a 0.
 fn show_element(net: Network, i: usize) {
     if i < 64 {
-        text(b"element");
-        field(i);
-        text(b":");
-        field(wide32(net.load[i]));
-        field(wide32(net.capacity[i]));
-        field(wide16(net.flags[i]));
-        text(b"\n");
+        show_row(
+            b"element",
+            i,
+            wide32(net.load[i]),
+            wide32(net.capacity[i]),
+            wide16(net.flags[i]),
+            0,
+        );
+    }
+}
+
+// A link of the network as its file states it: two elements, form, cost.
+fn show_link(net: Network, l: usize) {
+    if l < 96 {
+        show_row(
+            b"link",
+            l,
+            wide16(net.from[l]),
+            wide16(net.to[l]),
+            wide16(net.form[l]),
+            wide16(net.cost[l]),
+        );
     }
 }
 
@@ -425,19 +399,6 @@ fn show_elements(net: Network) {
     while i < net.elements {
         show_element(net, i);
         i += 1;
-    }
-}
-
-fn show_link(net: Network, l: usize) {
-    if l < 96 {
-        text(b"link");
-        field(l);
-        text(b":");
-        field(wide16(net.from[l]));
-        field(wide16(net.to[l]));
-        field(wide16(net.form[l]));
-        field(wide16(net.cost[l]));
-        text(b"\n");
     }
 }
 
@@ -450,14 +411,8 @@ fn show_links(net: Network) {
 }
 
 // What is read of both files, and their plan written again.
-fn show_contents(file: [u8; 141], from: usize, length: usize) {
-    if length < from {
-        return;
-    }
-    if 141 < length {
-        return;
-    }
-    let read = plan_file::read_network_and_plan(&file[from..length]);
+fn show_contents(bytes: &[u8]) {
+    let read = plan_file::read_network_and_plan(bytes);
     let net = read.net;
     let plan = read.plan;
     show_elements(net);
@@ -472,5 +427,6 @@ fn main() {
         try_case(CASES[i]);
         i += 1;
     }
-    show_contents(FILE, 0, 140);
+    let file = FILE;
+    show_contents(&file[0..140]);
 }

@@ -32,6 +32,15 @@ loop-less c = omega arith
 loop-again : tie.Need-loop-again Inv-loop μ-loop
 loop-again c = tt
 
+sub-show-contents : tie.Need-sub-show-contents Inv-loop μ-loop
+sub-show-contents c = omega arith
+
+part-show-contents-start : tie.Need-part-show-contents-start Inv-loop μ-loop
+part-show-contents-start c = omega arith
+
+part-show-contents-end : tie.Need-part-show-contents-end Inv-loop μ-loop
+part-show-contents-end c = omega arith
+
 show-contents-requires : tie.Need-show-contents-requires Inv-loop μ-loop
 show-contents-requires c κs = tt
 
@@ -51,5 +60,8 @@ main-spec =
     add-i
     loop-less
     loop-again
+    sub-show-contents
+    part-show-contents-start
+    part-show-contents-end
     show-contents-requires
     returns)

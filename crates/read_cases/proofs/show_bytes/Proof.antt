@@ -1,4 +1,4 @@
--- `read_cases::show_bytes` is safe and ends: the loop counts up to a fixed number.
+-- `read_cases::show_bytes` is safe and ends: the loop counts up to the length.
 -- Assumes nothing.
 use Prim.Native.Nat.{_-_}
 use native.Mathlib.Omega.{arith}
@@ -15,8 +15,14 @@ abbrev μ-loop : tie.MeasureT-loop
 loop-holds : tie.Need-loop-holds Inv-loop μ-loop
 loop-holds c = tt
 
-show-byte-requires : tie.Need-show-byte-requires Inv-loop μ-loop
-show-byte-requires c κs = tt
+shared-slice-read-wide : tie.Need-shared-slice-read-wide Inv-loop μ-loop
+shared-slice-read-wide c = omega arith
+
+wide-requires : tie.Need-wide-requires Inv-loop μ-loop
+wide-requires c κs = tt
+
+field-requires : tie.Need-field-requires Inv-loop μ-loop
+field-requires c κs = tt
 
 add-i : tie.Need-add-i Inv-loop μ-loop
 add-i c = omega arith
@@ -31,4 +37,16 @@ returns : tie.Need-returns Inv-loop μ-loop
 returns c = tt
 
 pub show-bytes-spec : {M : Type 1} → statement M
-show-bytes-spec = tie.close (tie.spec Inv-loop μ-loop loop-holds show-byte-requires add-i loop-less loop-again returns)
+show-bytes-spec =
+    tie.close
+    (tie.spec
+    Inv-loop
+    μ-loop
+    loop-holds
+    shared-slice-read-wide
+    wide-requires
+    field-requires
+    add-i
+    loop-less
+    loop-again
+    returns)

@@ -1,6 +1,5 @@
 -- `read_cases::write_into` is safe: the part that is lent is as long as asked.
 -- Assumes nothing.
-use native.Mathlib.Omega.{arith}
 use lib.Seq.{length-take-le}
 use borrow.Author.Needs.{needs}
 use Rattle.read_cases.proofs.write_into.Statement.{statement}
@@ -15,22 +14,11 @@ slice-aggregate-text c = search needs
 text-requires : tie.Need-text-requires
 text-requires c κs = search needs
 
-field-requires : tie.Need-field-requires
-field-requires c κs = search needs
-
-slice-aggregate-text-2 : tie.Need-slice-aggregate-text-2
-slice-aggregate-text-2 c = search needs
-
-text-requires-2 : tie.Need-text-requires-2
-text-requires-2 c κs = search needs
-
 slice-relend-prefix-write-plan : tie.Need-slice-relend-prefix-write-plan
 slice-relend-prefix-write-plan c = search needs
 
 slice-aggregate-write-plan : tie.Need-slice-aggregate-write-plan
-slice-aggregate-write-plan c =
-    let fits = c .before .before .before .before .before .before .if1 .left in
-    simp length-take-le
+slice-aggregate-write-plan c = let fits = c .before .before .before .if1 .left in simp length-take-le
 
 write-plan-requires : tie.Need-write-plan-requires
 write-plan-requires c κs = search needs
@@ -44,23 +32,20 @@ show-refusal-requires c κs = search needs
 enum-known-written-2 : tie.Need-enum-known-written-2
 enum-known-written-2 c = search needs
 
-number-requires : tie.Need-number-requires
-number-requires c κs = search needs
+field-requires : tie.Need-field-requires
+field-requires c κs = search needs
 
-slice-aggregate-text-3 : tie.Need-slice-aggregate-text-3
-slice-aggregate-text-3 c = search needs
+slice-aggregate-text-2 : tie.Need-slice-aggregate-text-2
+slice-aggregate-text-2 c = search needs
 
-text-requires-3 : tie.Need-text-requires-3
-text-requires-3 c κs = search needs
+text-requires-2 : tie.Need-text-requires-2
+text-requires-2 c κs = search needs
 
 show-bytes-requires : tie.Need-show-bytes-requires
 show-bytes-requires c κs = search needs
 
-slice-aggregate-text-4 : tie.Need-slice-aggregate-text-4
-slice-aggregate-text-4 c = search needs
-
-text-requires-4 : tie.Need-text-requires-4
-text-requires-4 c κs = search needs
+end-line-requires : tie.Need-end-line-requires
+end-line-requires c κs = search needs
 
 same-length : tie.Need-same-length
 same-length c = search needs
@@ -75,20 +60,16 @@ write-into-spec =
     returns
     slice-aggregate-text
     text-requires
-    field-requires
-    slice-aggregate-text-2
-    text-requires-2
     slice-relend-prefix-write-plan
     slice-aggregate-write-plan
     write-plan-requires
     enum-known-written
     show-refusal-requires
     enum-known-written-2
-    number-requires
-    slice-aggregate-text-3
-    text-requires-3
+    field-requires
+    slice-aggregate-text-2
+    text-requires-2
     show-bytes-requires
-    slice-aggregate-text-4
-    text-requires-4
+    end-line-requires
     same-length
     returns-2)
