@@ -65,7 +65,7 @@ fn put_steps(buffer: &mut [u8], plan: Plan)
 }
 
 // The length of a plan's file.
-pub fn plan_length(plan: Plan) -> usize
+fn plan_length(plan: Plan) -> usize
     ensures { λ r. ⌜ r ≡ planLength plan ⌝ }
 {
     let steps = plan.steps as usize;

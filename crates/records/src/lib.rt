@@ -168,10 +168,12 @@ fn step_rules(s: &[u8], at: usize, links: usize) -> Verdict
     requires { ⌜ at + 8 ≤ length (now s) ⌝ }
     ensures { λ r. ⌜ r ≡ firstBroken (stepRules (now (s .entry)) at links) ⌝ }
 {
-    if links <= word_at(s, at + 4) as usize {
+    let link = word_at(s, at + 4) as usize;
+    let state = word_at(s, at + 6) as usize;
+    if links <= link {
         return Verdict::Broken(Rule::UnknownLink);
     }
-    if 1 < word_at(s, at + 6) {
+    if 2 <= state {
         return Verdict::Broken(Rule::UnknownState);
     }
     Verdict::Kept

@@ -8,10 +8,10 @@ use Rattle.network_file.proofs.read_network.Statement.{statement}
 use Rattle.network_file.proofs.read_network.Tie as tie
 
 network-file-requires : tie.Need-network-file-requires
-network-file-requires c κs = search needs
+network-file-requires c κs = tt
 
 ended-requires : tie.Need-ended-requires
-ended-requires c κs = search needs
+ended-requires c κs = tt
 
 enum-told : tie.Need-enum-told
 enum-told c = search needs
@@ -20,7 +20,7 @@ enum-told-2 : tie.Need-enum-told-2
 enum-told-2 c = search needs
 
 empty-requires : tie.Need-empty-requires
-empty-requires c κs = search needs
+empty-requires c κs = tt
 
 returns : tie.Need-returns
 unfolding networkInput

@@ -14,7 +14,7 @@ enum-known-answer : tie.Need-enum-known-answer
 enum-known-answer c = search needs
 
 refused-both-requires : tie.Need-refused-both-requires
-refused-both-requires c κs = search needs
+refused-both-requires c κs = tt
 
 enum-told : tie.Need-enum-told
 enum-told c = search needs

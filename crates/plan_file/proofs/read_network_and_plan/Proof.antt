@@ -9,19 +9,19 @@ use Rattle.plan_file.proofs.read_network_and_plan.Statement.{statement}
 use Rattle.plan_file.proofs.read_network_and_plan.Tie as tie
 
 network-file-requires : tie.Need-network-file-requires
-network-file-requires c κs = search needs
+network-file-requires c κs = tt
 
 enum-known-reached : tie.Need-enum-known-reached
 enum-known-reached c = search needs
 
 refused-both-requires : tie.Need-refused-both-requires
-refused-both-requires c κs = search needs
+refused-both-requires c κs = tt
 
 enum-known-reached-2 : tie.Need-enum-known-reached-2
 enum-known-reached-2 c = search needs
 
 plan-behind-requires : tie.Need-plan-behind-requires
-plan-behind-requires c κs = search needs
+plan-behind-requires c κs = tt
 
 returns : tie.Need-returns
 unfolding bothInput

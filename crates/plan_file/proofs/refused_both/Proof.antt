@@ -1,15 +1,14 @@
 -- `plan_file::refused_both` hands out the empty network and the empty plan.
 -- Assumes nothing.
 use Rattle.plan_file.specs.Inputs.{bothRead}
-use borrow.Author.Needs.{needs}
 use Rattle.plan_file.proofs.refused_both.Statement.{statement}
 use Rattle.plan_file.proofs.refused_both.Tie as tie
 
 empty-requires : tie.Need-empty-requires
-empty-requires c κs = search needs
+empty-requires c κs = tt
 
 empty-requires-2 : tie.Need-empty-requires-2
-empty-requires-2 c κs = search needs
+empty-requires-2 c κs = tt
 
 returns : tie.Need-returns
 unfolding bothRead

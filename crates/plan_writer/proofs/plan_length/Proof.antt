@@ -1,19 +1,19 @@
 -- `plan_writer::plan_length` meets its contract: a count of steps is a byte, so the length fits.
 -- Assumes nothing.
 use mathlib.Core.Path.{refl}
-use borrow.Author.Needs.{needs}
+use native.Mathlib.Omega.{arith}
 use Rattle.plan_writer.specs.Writing.{planLength}
 use Rattle.plan_writer.proofs.plan_length.Statement.{statement}
 use Rattle.plan_writer.proofs.plan_length.Tie as tie
 
 cast-steps : tie.Need-cast-steps
-cast-steps c = search needs
+cast-steps c = omega arith
 
 mul-result : tie.Need-mul-result
-mul-result c = search needs
+mul-result c = omega arith
 
 add-result : tie.Need-add-result
-add-result c = search needs
+add-result c = omega arith
 
 returns : tie.Need-returns
 unfolding planLength

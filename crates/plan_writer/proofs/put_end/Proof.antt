@@ -2,6 +2,7 @@
 -- Assumes nothing.
 use mathlib.Core.Path.{refl}
 use Prim.Native.Nat.{_+_}
+use native.Mathlib.Omega.{arith}
 use borrow.Author.Needs.{needs}
 use Rattle.plan_writer.specs.Writing.{number, endBytes}
 use Rattle.plan_writer.proofs.Stores.{stored-behind}
@@ -12,7 +13,7 @@ put-word-requires : tie.Need-put-word-requires
 put-word-requires c κs = search needs
 
 add-put-word : tie.Need-add-put-word
-add-put-word c = search needs
+add-put-word c = omega arith
 
 put-word-requires-2 : tie.Need-put-word-requires-2
 put-word-requires-2 c κs = search needs

@@ -3,6 +3,7 @@
 use mathlib.Core.Path.{refl}
 use mathlib.Core.List.{_++_}
 use Prim.Native.Nat.{_+_}
+use native.Mathlib.Omega.{arith}
 use borrow.Author.Needs.{needs}
 use Rattle.plan_writer.specs.Writing.{number, stateNumber, stepBytes}
 use Rattle.plan_writer.proofs.Stores.{stored-behind}
@@ -13,22 +14,22 @@ put-word-requires : tie.Need-put-word-requires
 put-word-requires c κs = search needs
 
 add-put-word : tie.Need-add-put-word
-add-put-word c = search needs
+add-put-word c = omega arith
 
 put-word-requires-2 : tie.Need-put-word-requires-2
 put-word-requires-2 c κs = search needs
 
 add-put-word-2 : tie.Need-add-put-word-2
-add-put-word-2 c = search needs
+add-put-word-2 c = omega arith
 
 put-word-requires-3 : tie.Need-put-word-requires-3
 put-word-requires-3 c κs = search needs
 
 add-put-word-3 : tie.Need-add-put-word-3
-add-put-word-3 c = search needs
+add-put-word-3 c = omega arith
 
 cast-put-word : tie.Need-cast-put-word
-cast-put-word c = search needs
+cast-put-word c = omega arith
 
 put-word-requires-4 : tie.Need-put-word-requires-4
 put-word-requires-4 c κs = search needs

@@ -19,13 +19,13 @@ abbrev μ-loop : tie.MeasureT-loop
 μ-loop buffer₀ plan count i₀ buffer i = count - i
 
 cast-count : tie.Need-cast-count Inv-loop μ-loop
-cast-count c = search needs
+cast-count c = omega arith
 
 loop-holds : tie.Need-loop-holds Inv-loop μ-loop
 loop-holds c = (omega arith, refl, rw steps-none)
 
 mul-link : tie.Need-mul-link Inv-loop μ-loop
-mul-link c = search needs
+mul-link c = omega arith
 
 element-copy-out-link : tie.Need-element-copy-out-link Inv-loop μ-loop
 element-copy-out-link c = search needs
@@ -34,16 +34,16 @@ element-copy-out-close : tie.Need-element-copy-out-close Inv-loop μ-loop
 element-copy-out-close c = search needs
 
 mul-put-step : tie.Need-mul-put-step Inv-loop μ-loop
-mul-put-step c = search needs
+mul-put-step c = omega arith
 
 add-put-step : tie.Need-add-put-step Inv-loop μ-loop
-add-put-step c = search needs
+add-put-step c = omega arith
 
 put-step-requires : tie.Need-put-step-requires Inv-loop μ-loop
 put-step-requires c κs = omega arith
 
 add-i : tie.Need-add-i Inv-loop μ-loop
-add-i c = search needs
+add-i c = omega arith
 
 loop-less : tie.Need-loop-less Inv-loop μ-loop
 loop-less c = search needs

@@ -8,16 +8,16 @@ use Rattle.plan_writer.proofs.put_word.Statement.{statement}
 use Rattle.plan_writer.proofs.put_word.Tie as tie
 
 cast-buffer : tie.Need-cast-buffer
-cast-buffer c = search needs
+cast-buffer c = omega arith
 
 slice-write-buffer : tie.Need-slice-write-buffer
 slice-write-buffer c = search needs
 
 cast-buffer-2 : tie.Need-cast-buffer-2
-cast-buffer-2 c = search needs
+cast-buffer-2 c = omega arith
 
 add-buffer : tie.Need-add-buffer
-add-buffer c = search needs
+add-buffer c = omega arith
 
 slice-write-buffer-2 : tie.Need-slice-write-buffer-2
 slice-write-buffer-2 c = simp length-set (omega arith)

@@ -10,10 +10,10 @@ use Rattle.plan_writer.proofs.write_plan.Statement.{statement}
 use Rattle.plan_writer.proofs.write_plan.Tie as tie
 
 plan-length-requires : tie.Need-plan-length-requires
-plan-length-requires c κs = search needs
+plan-length-requires c κs = tt
 
 returns : tie.Need-returns
-returns c = too-short (c .before .before .before .args .plan) (c .before .before .before .args .buffer .now) _ (c .before .plan-length .ensures) (c .if1 .taken)
+returns c = too-short (c .before .before .before .args .plan) (c .before .before .before .args .buffer .now) _ (c .before .plan-length .ensures) (omega arith)
 
 put-head-requires : tie.Need-put-head-requires
 unfolding planLength

@@ -2,27 +2,27 @@
 -- Assumes nothing.
 use borrow.Author.Tests.{eq-eqb, ne-eqb, lt-ltb, le-ltb}
 use Rattle.records.specs.Records.{headRules}
-use borrow.Author.Needs.{needs}
+use native.Mathlib.Omega.{arith}
 use Rattle.records.proofs.head_rules.Statement.{statement}
 use Rattle.records.proofs.head_rules.Tie as tie
 
 add-word-at : tie.Need-add-word-at
-add-word-at c = search needs
+add-word-at c = omega arith
 
 word-at-requires : tie.Need-word-at-requires
-word-at-requires c κs = search needs
+word-at-requires c κs = omega arith
 
 cast-elements : tie.Need-cast-elements
-cast-elements c = search needs
+cast-elements c = omega arith
 
 add-word-at-2 : tie.Need-add-word-at-2
-add-word-at-2 c = search needs
+add-word-at-2 c = omega arith
 
 word-at-requires-2 : tie.Need-word-at-requires-2
-word-at-requires-2 c κs = search needs
+word-at-requires-2 c κs = omega arith
 
 cast-links : tie.Need-cast-links
-cast-links c = search needs
+cast-links c = omega arith
 
 returns : tie.Need-returns
 unfolding headRules

@@ -2,15 +2,15 @@
 -- Assumes nothing.
 use borrow.Author.Tests.{lt-ltb, le-ltb}
 use Rattle.records.specs.Records.{planHeadRules}
-use borrow.Author.Needs.{needs}
+use native.Mathlib.Omega.{arith}
 use Rattle.records.proofs.plan_head_rules.Statement.{statement}
 use Rattle.records.proofs.plan_head_rules.Tie as tie
 
 add-word-at : tie.Need-add-word-at
-add-word-at c = search needs
+add-word-at c = omega arith
 
 word-at-requires : tie.Need-word-at-requires
-word-at-requires c κs = search needs
+word-at-requires c κs = omega arith
 
 returns : tie.Need-returns
 unfolding planHeadRules

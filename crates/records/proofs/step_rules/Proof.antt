@@ -1,37 +1,40 @@
 -- `records::step_rules` finds rule 11 before rule 12: each return by the tests that led there.
 -- Assumes nothing.
-use borrow.Author.Tests.{lt-ltb, le-ltb, le-leb, lt-leb}
+use borrow.Author.Tests.{le-leb, lt-leb}
 use Rattle.records.specs.Records.{stepRules}
-use borrow.Author.Needs.{needs}
+use native.Mathlib.Omega.{arith}
 use Rattle.records.proofs.step_rules.Statement.{statement}
 use Rattle.records.proofs.step_rules.Tie as tie
 
 add-word-at : tie.Need-add-word-at
-add-word-at c = search needs
+add-word-at c = omega arith
 
 word-at-requires : tie.Need-word-at-requires
-word-at-requires c κs = search needs
+word-at-requires c κs = omega arith
 
-cast-if1 : tie.Need-cast-if1
-cast-if1 c = search needs
+cast-link : tie.Need-cast-link
+cast-link c = omega arith
+
+add-word-at-2 : tie.Need-add-word-at-2
+add-word-at-2 c = omega arith
+
+word-at-requires-2 : tie.Need-word-at-requires-2
+word-at-requires-2 c κs = omega arith
+
+cast-state : tie.Need-cast-state
+cast-state c = omega arith
 
 returns : tie.Need-returns
 unfolding stepRules
-returns c = simp (← c .before .word-at .ensures, le-leb _ _ (c .if1 .taken))
-
-add-word-at-2 : tie.Need-add-word-at-2
-add-word-at-2 c = search needs
-
-word-at-requires-2 : tie.Need-word-at-requires-2
-word-at-requires-2 c κs = search needs
+returns c = simp (← c .before .before .word-at .ensures, ← c .before .word-at2 .ensures, le-leb _ _ (c .if1 .taken))
 
 returns-2 : tie.Need-returns-2
 unfolding stepRules
-returns-2 c = simp (← c .before .before .before .word-at .ensures, lt-leb _ _ (c .before .before .if1 .left), ← c .before .word-at2 .ensures, lt-ltb _ _ (c .if2 .taken))
+returns-2 c = simp (← c .before .before .before .word-at .ensures, ← c .before .before .word-at2 .ensures, lt-leb _ _ (c .before .if1 .left), le-leb _ _ (c .if2 .taken))
 
 returns-3 : tie.Need-returns-3
 unfolding stepRules
-returns-3 c = simp (← c .before .before .before .word-at .ensures, lt-leb _ _ (c .before .before .if1 .left), ← c .before .word-at2 .ensures, le-ltb _ _ (c .if2 .left))
+returns-3 c = simp (← c .before .before .before .word-at .ensures, ← c .before .before .word-at2 .ensures, lt-leb _ _ (c .before .if1 .left), lt-leb _ _ (c .if2 .left))
 
 pub step-rules-spec : {M : Type 1} → statement M
 step-rules-spec =
@@ -39,9 +42,10 @@ step-rules-spec =
     (tie.spec
     add-word-at
     word-at-requires
-    cast-if1
-    returns
+    cast-link
     add-word-at-2
     word-at-requires-2
+    cast-state
+    returns
     returns-2
     returns-3)

@@ -15,7 +15,7 @@ cast-low : tie.Need-cast-low
 cast-low c = omega (arith, c .shared-slice-known .given (c .before .args .at))
 
 add-high : tie.Need-add-high
-add-high c = search needs
+add-high c = omega arith
 
 shared-slice-read-high : tie.Need-shared-slice-read-high
 shared-slice-read-high c = search needs

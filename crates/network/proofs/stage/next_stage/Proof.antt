@@ -7,16 +7,16 @@ use Rattle.network.proofs.stage.next_stage.Statement.{statement}
 use Rattle.network.proofs.stage.next_stage.Tie as tie
 
 returns : tie.Need-returns
-returns c = past (c .before .args .stage) (c .before .args .kind) (c .if1 .taken)
+returns c = past (c .before .args .stage) (c .before .args .kind) (omega arith)
 
 row-of-requires : tie.Need-row-of-requires
-row-of-requires c κs = search needs
+row-of-requires c κs = tt
 
 mul-next : tie.Need-mul-next
 mul-next c = omega (arith, row-small (c .before .before .args .stage))
 
 mul-next-2 : tie.Need-mul-next-2
-mul-next-2 c = search needs
+mul-next-2 c = omega arith
 
 index-1-next : tie.Need-index-1-next
 index-1-next c = omega (arith, row-small (c .before .before .args .stage))

@@ -9,10 +9,10 @@ use Rattle.network_file.proofs.reader.elements_on.Statement.{statement}
 use Rattle.network_file.proofs.reader.elements_on.Tie as tie
 
 word-at-requires : tie.Need-word-at-requires
-word-at-requires c κs = search needs
+word-at-requires c κs = omega arith
 
 cast-count : tie.Need-cast-count
-cast-count c = search needs
+cast-count c = omega arith
 
 read-elements-requires : tie.Need-read-elements-requires
 read-elements-requires c κs =
@@ -26,7 +26,7 @@ enum-known-reached : tie.Need-enum-known-reached
 enum-known-reached c = search needs
 
 after-last-requires : tie.Need-after-last-requires
-after-last-requires c κs = search needs
+after-last-requires c κs = tt
 
 links-on-requires : tie.Need-links-on-requires
 links-on-requires c κs =

@@ -13,19 +13,19 @@ use Rattle.network_file.proofs.reader.end_on.Statement.{statement}
 use Rattle.network_file.proofs.reader.end_on.Tie as tie
 
 due-at-requires : tie.Need-due-at-requires
-due-at-requires c κs = search needs
+due-at-requires c κs = tt
 
 enum-known-found : tie.Need-enum-known-found
 enum-known-found c = search needs
 
 refused-network-requires : tie.Need-refused-network-requires
-refused-network-requires c κs = search needs
+refused-network-requires c κs = tt
 
 enum-known-found-2 : tie.Need-enum-known-found-2
 enum-known-found-2 c = search needs
 
 cast-after : tie.Need-cast-after
-cast-after c = search needs
+cast-after c = omega arith
 
 add-after : tie.Need-add-after
 add-after c =

@@ -9,10 +9,10 @@ use Rattle.network_file.proofs.reader.links_on.Statement.{statement}
 use Rattle.network_file.proofs.reader.links_on.Tie as tie
 
 word-at-requires : tie.Need-word-at-requires
-word-at-requires c κs = search needs
+word-at-requires c κs = omega arith
 
 cast-count : tie.Need-cast-count
-cast-count c = search needs
+cast-count c = omega arith
 
 read-links-requires : tie.Need-read-links-requires
 read-links-requires c κs =
@@ -26,10 +26,10 @@ enum-known-reached : tie.Need-enum-known-reached
 enum-known-reached c = search needs
 
 after-last-requires : tie.Need-after-last-requires
-after-last-requires c κs = search needs
+after-last-requires c κs = tt
 
 end-on-requires : tie.Need-end-on-requires
-end-on-requires c κs = search needs
+end-on-requires c κs = tt
 
 returns : tie.Need-returns
 returns c =

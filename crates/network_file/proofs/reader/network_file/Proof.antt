@@ -14,19 +14,19 @@ use Rattle.network_file.proofs.reader.network_file.Statement.{statement
 use Rattle.network_file.proofs.reader.network_file.Tie as tie
 
 due-at-requires : tie.Need-due-at-requires
-due-at-requires c κs = search needs
+due-at-requires c κs = tt
 
 enum-known-found : tie.Need-enum-known-found
 enum-known-found c = search needs
 
 refused-network-requires : tie.Need-refused-network-requires
-refused-network-requires c κs = search needs
+refused-network-requires c κs = tt
 
 enum-known-found-2 : tie.Need-enum-known-found-2
 enum-known-found-2 c = search needs
 
 cast-elements-on : tie.Need-cast-elements-on
-cast-elements-on c = search needs
+cast-elements-on c = omega arith
 
 elements-on-requires : tie.Need-elements-on-requires
 elements-on-requires c κs =

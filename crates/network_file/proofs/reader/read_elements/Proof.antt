@@ -112,7 +112,7 @@ add-net : tie.Need-add-net Inv-loop μ-loop
 add-net c = omega arith
 
 cast-at : tie.Need-cast-at Inv-loop μ-loop
-cast-at c = search needs
+cast-at c = omega arith
 
 add-at : tie.Need-add-at Inv-loop μ-loop
 add-at c = let w = turn (c .before .before .before) in omega arith

@@ -1,12 +1,11 @@
 -- `network_file::reader::refused_network` hands out the empty network.
 -- Assumes nothing.
 use Rattle.network_file.specs.Inputs.{networkPart}
-use borrow.Author.Needs.{needs}
 use Rattle.network_file.proofs.reader.refused_network.Statement.{statement}
 use Rattle.network_file.proofs.reader.refused_network.Tie as tie
 
 empty-requires : tie.Need-empty-requires
-empty-requires c κs = search needs
+empty-requires c κs = tt
 
 returns : tie.Need-returns
 unfolding networkPart

@@ -13,19 +13,19 @@ use Rattle.plan_file.proofs.reader.end_of_plan.Statement.{statement}
 use Rattle.plan_file.proofs.reader.end_of_plan.Tie as tie
 
 due-at-requires : tie.Need-due-at-requires
-due-at-requires c κs = search needs
+due-at-requires c κs = tt
 
 enum-known-found : tie.Need-enum-known-found
 enum-known-found c = search needs
 
 refused-plan-requires : tie.Need-refused-plan-requires
-refused-plan-requires c κs = search needs
+refused-plan-requires c κs = tt
 
 enum-known-found-2 : tie.Need-enum-known-found-2
 enum-known-found-2 c = search needs
 
 cast-after : tie.Need-cast-after
-cast-after c = search needs
+cast-after c = omega arith
 
 add-after : tie.Need-add-after
 add-after c =

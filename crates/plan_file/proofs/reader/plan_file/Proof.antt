@@ -12,19 +12,19 @@ use Rattle.plan_file.proofs.reader.plan_file.Statement.{statement}
 use Rattle.plan_file.proofs.reader.plan_file.Tie as tie
 
 due-at-requires : tie.Need-due-at-requires
-due-at-requires c κs = search needs
+due-at-requires c κs = tt
 
 enum-known-found : tie.Need-enum-known-found
 enum-known-found c = search needs
 
 refused-plan-requires : tie.Need-refused-plan-requires
-refused-plan-requires c κs = search needs
+refused-plan-requires c κs = tt
 
 enum-known-found-2 : tie.Need-enum-known-found-2
 enum-known-found-2 c = search needs
 
 cast-steps-on : tie.Need-cast-steps-on
-cast-steps-on c = search needs
+cast-steps-on c = omega arith
 
 add-steps-on : tie.Need-add-steps-on
 add-steps-on c =

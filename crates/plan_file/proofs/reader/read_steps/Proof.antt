@@ -93,7 +93,7 @@ add-plan : tie.Need-add-plan Inv-loop μ-loop
 add-plan c = omega arith
 
 cast-at : tie.Need-cast-at Inv-loop μ-loop
-cast-at c = search needs
+cast-at c = omega arith
 
 add-at : tie.Need-add-at Inv-loop μ-loop
 add-at c = let w = turn (c .before .before) in omega arith

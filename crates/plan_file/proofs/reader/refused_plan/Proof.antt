@@ -1,12 +1,11 @@
 -- `plan_file::reader::refused_plan` hands out the empty plan.
 -- Assumes nothing.
 use Rattle.plan_file.specs.Inputs.{planPart}
-use borrow.Author.Needs.{needs}
 use Rattle.plan_file.proofs.reader.refused_plan.Statement.{statement}
 use Rattle.plan_file.proofs.reader.refused_plan.Tie as tie
 
 empty-requires : tie.Need-empty-requires
-empty-requires c κs = search needs
+empty-requires c κs = tt
 
 returns : tie.Need-returns
 unfolding planPart

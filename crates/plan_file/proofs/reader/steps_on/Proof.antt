@@ -9,13 +9,13 @@ use Rattle.plan_file.proofs.reader.steps_on.Statement.{statement}
 use Rattle.plan_file.proofs.reader.steps_on.Tie as tie
 
 add-word-at : tie.Need-add-word-at
-add-word-at c = search needs
+add-word-at c = omega arith
 
 word-at-requires : tie.Need-word-at-requires
-word-at-requires c κs = search needs
+word-at-requires c κs = omega arith
 
 cast-count : tie.Need-cast-count
-cast-count c = search needs
+cast-count c = omega arith
 
 read-steps-requires : tie.Need-read-steps-requires
 read-steps-requires c κs =
@@ -29,10 +29,10 @@ enum-known-reached : tie.Need-enum-known-reached
 enum-known-reached c = search needs
 
 after-last-requires : tie.Need-after-last-requires
-after-last-requires c κs = search needs
+after-last-requires c κs = tt
 
 end-of-plan-requires : tie.Need-end-of-plan-requires
-end-of-plan-requires c κs = search needs
+end-of-plan-requires c κs = tt
 
 returns : tie.Need-returns
 returns c =
