@@ -1,6 +1,10 @@
--- Document 01, "The limits belong to the network record as named constants": the empty network, 64 elements and 96 links wide.
+-- Document 01, "The limits belong to the network record as named constants": the empty network, 64 elements and 96 links
+-- wide, and a network with one element or one link more. "Elements and links are numbered from 0 in file order."
 -- Assumes nothing.
-use lib.ListN.{replicate}
+use Prim.Native.Nat.{_+_}
+use lib.ListN.{replicate, set}
+use Rattle.network.specs.declared.Element.{Element}
+use Rattle.network.specs.declared.Link.{Link}
 use Rattle.network.specs.declared.Network.{Network}
 
 unfoldable pub emptyNetwork : Network
@@ -15,4 +19,32 @@ emptyNetwork =
       cost = replicate 96 0;
       elements = 0;
       links = 0;
+    }
+
+abbrev pub elementAdded : Network → Element → Network
+elementAdded n e =
+    record {
+      load = set (n .load) (n .elements) (e .load);
+      capacity = set (n .capacity) (n .elements) (e .capacity);
+      flags = set (n .flags) (n .elements) (e .flags);
+      from = n .from;
+      to = n .to;
+      form = n .form;
+      cost = n .cost;
+      elements = n .elements + 1;
+      links = n .links;
+    }
+
+abbrev pub linkAdded : Network → Link → Network
+linkAdded n l =
+    record {
+      load = n .load;
+      capacity = n .capacity;
+      flags = n .flags;
+      from = set (n .from) (n .links) (l .from);
+      to = set (n .to) (n .links) (l .to);
+      form = set (n .form) (n .links) (l .form);
+      cost = set (n .cost) (n .links) (l .cost);
+      elements = n .elements;
+      links = n .links + 1;
     }

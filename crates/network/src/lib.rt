@@ -18,6 +18,21 @@ pub struct Network {
     pub links: usize,
 }
 
+// An element: own load, capacity, flags (1 source, 2 faulty, 3 both).
+pub struct Element {
+    pub load: u32,
+    pub capacity: u32,
+    pub flags: u16,
+}
+
+// A link: two elements, form (0 fixed, 1 open switch, 2 closed switch), cost.
+pub struct Link {
+    pub from: u16,
+    pub to: u16,
+    pub form: u16,
+    pub cost: u16,
+}
+
 impl Network {
     pub const MAX_ELEMENTS: usize = 64;
 

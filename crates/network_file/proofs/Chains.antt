@@ -23,11 +23,13 @@ use Rattle.network_file.proofs.Parts.{elementsRun}
 use Rattle.network_file.proofs.Outcomes.{network-refused, network-reached}
 
 -- a head: one record, then what its stage begins
-module _ {A : Type 0} (s : List ℕ) (links at : ℕ) (stage : Stage) (empty : A) (f : ℕ → Stage → A → Outcome A) (found : Found) (due : found ≡ dueAt s 0 links at stage) where
+module _ {A : Type 0} (s : List ℕ) (links at : ℕ) (stage : Stage) (empty : A) (f : ℕ → Stage → A → Outcome A) (found : Found)
+    (due : found ≡ dueAt s 0 links at stage) where
   pub head-refused : (r : Refusal) → found ≡ Found·Refused r → refused r ≡ andThen (records s 0 links asIs 1 at stage empty) f
   head-refused r h = ap (λ (o : Outcome A). andThen o f) (sym (records-refused s 0 links asIs 1 at stage empty r (omega arith) (sym due ∙ h)))
 
-  pub head-found : (kind long : ℕ) (next : Stage) → found ≡ Record kind long next → f (at + long) next empty ≡ andThen (records s 0 links asIs 1 at stage empty) f
+  pub head-found : (kind long : ℕ) (next : Stage) → found ≡ Record kind long next → f (at + long) next empty ≡ andThen
+      (records s 0 links asIs 1 at stage empty) f
   head-found kind long next h =
       ap (λ (o : Outcome A). andThen o f)
       (sym (records-suc s 0 links asIs 0 at stage empty kind long next (sym due ∙ h) ∙ records-none s 0 links asIs (at + long) next empty))
@@ -44,7 +46,8 @@ module _ (s : List ℕ) (at : ℕ) (stage : Stage) (n : Network) (part : Network
   unfolding linksOn
   links-refused r hp h = let q = network-refused linksHere thenEnd part r hp h in q .0 ∙ ap networkPart (q .1)
 
-  pub links-reached : (after : ℕ) (next : Stage) → part ≡ networkPart linksHere → part .reached ≡ At after next → endOn s after (afterLast next) (part .net) ≡ linksOn s at stage n
+  pub links-reached : (after : ℕ) (next : Stage) → part ≡ networkPart linksHere → part .reached ≡ At after next → endOn s after (afterLast next)
+      (part .net) ≡ linksOn s at stage n
   unfolding linksOn
   links-reached after next hp h = network-reached linksHere thenEnd part after next hp h .1
 
@@ -53,7 +56,8 @@ module _ (s : List ℕ) (at : ℕ) (stage : Stage) (part : NetworkPart) where
   abbrev thenLinks : ℕ → Stage → Network → Outcome Network
   thenLinks after next net = linksOn s after (afterLast next) net
 
-  pub elements-refused : (r : Refusal) → part ≡ networkPart (elementsRun s at stage emptyNetwork) → part .reached ≡ Refused r → part ≡ networkPart (elementsOn s at stage emptyNetwork)
+  pub elements-refused : (r : Refusal) → part ≡ networkPart (elementsRun s at stage emptyNetwork) → part .reached ≡ Refused r → part ≡ networkPart
+      (elementsOn s at stage emptyNetwork)
   unfolding elementsOn
   elements-refused r hp h = let q = network-refused (elementsRun s at stage emptyNetwork) thenLinks part r hp h in q .0 ∙ ap networkPart (q .1)
 

@@ -23,12 +23,12 @@ use Rattle.network.specs.Stages.{nextStage, afterLast}
 use Rattle.records.specs.Records.{word, lengthField, kindField, lengthOf, isRefused, foundBy, frameRules, headRules, elementRules, linkRules, planHeadRules, stepRules, fieldRules, recordRules, dueAt}
 use Rattle.network.specs.Networks.{emptyNetwork}
 use Rattle.network_file.specs.Runs.{Outcome, refused, reached, andThen, records, asIs}
-use Rattle.network_file.specs.NetworkFiles.{withElement, withLink, networkFile}
+use Rattle.network_file.specs.NetworkFiles.{elementOf, linkOf, withElement, withLink, networkFile}
 use Rattle.network_file.specs.Inputs.{closed, networkInput}
-use Rattle.records.proofs.Due.{first-append, orElse, length-most, longAt, nextAt, due-kept}
+use Rattle.records.proofs.Due.{first-append, orElse, longestRecord, length-most, longest, nextAt, due-kept}
 use Rattle.network_file.proofs.Runs.{records-none, records-refused, records-suc}
 use Rattle.network_file.proofs.Parts.{headRun, elementsRun, linksRun, endRun, withElements, withLinks, network-chain}
-use Rattle.network_file.proofs.Sizes.{head-read, elements-read, links-read, network-size}
+use Rattle.network_file.proofs.Sizes.{head-read, elements-read, links-read, networkLongest, network-size}
 
 -- What reading asks of the bytes, below a limit.
 pub record Agree (limit : ℕ) (s t : List ℕ) : Type 0 where
@@ -73,29 +73,35 @@ then-agree {A} {B} o o' f g e h = ap (λ (x : Outcome A). andThen x f) e ∙ go 
 
 module _ (limit : ℕ) (s t : List ℕ) (agree : Agree limit s t) where
   -- rule 4 compares the bytes left with a length field of any size, but only where rule 3 is kept
-  frame-agrees : (at : ℕ) (stage : Stage) → at + 12 ≤ limit → firstBroken (frameRules s at stage) ≡ firstBroken (frameRules t at stage)
+  frame-agrees : (at : ℕ) (stage : Stage) → at + longestRecord ≤ limit → firstBroken (frameRules s at stage) ≡ firstBroken (frameRules t at stage)
   unfolding frameRules
   frame-agrees at stage h =
       rw (agree .words at (omega arith), agree .words (at + 2) (omega arith), agree .left at 4 (omega arith))
-      (ap (λ (v : Verdict). pick (ltb (length t - at) 4) (Broken RecordMissing) (pick (isRefused (nextStage stage (kindField t at))) (Broken KindOutOfPlace) v))
-      (behind (not (eqb (lengthField t at) (lengthOf (kindField t at)))) (ltb (length s - at) (lengthField t at)) (ltb (length t - at) (lengthField t at))
+      (ap (λ (v : Verdict). pick (ltb (length t - at) 4) (Broken RecordMissing)
+      (pick (isRefused (nextStage stage (kindField t at))) (Broken KindOutOfPlace) v))
+      (behind (not (eqb (lengthField t at) (lengthOf (kindField t at)))) (ltb (length s - at) (lengthField t at))
+      (ltb (length t - at) (lengthField t at))
       (Broken WrongLength) (Broken RecordCutOff) Kept
       (λ kept.
       let right : lengthField t at ≡ lengthOf (kindField t at) = eqb-true _ _ (not-false _ kept) in
       agree .left at (lengthField t at) (omega (arith, length-most (kindField t at))))))
 
-  fields-agree :
-      (at kind elements links : ℕ) → at + 12 ≤ limit → fieldRules s at kind elements links ≡ fieldRules t at kind elements links
-  unfolding fieldRules headRules elementRules linkRules planHeadRules stepRules
-  fields-agree at kind elements links h =
-      rw (agree .words (at + 4) (omega arith), agree .words (at + 6) (omega arith), agree .words (at + 8) (omega arith), agree .words (at + 10) (omega arith))
+  -- the words of a record, none past the longest
+  pub record-words :
+      (at : ℕ) → at + longestRecord ≤ limit → (i : ℕ) → ltb (i + 1) longestRecord ≡ true → word s (at + i) ≡ word t (at + i)
+  record-words at h i e = agree .words (at + i) (omega (arith, ltb-true (i + 1) longestRecord e))
 
-  found-agrees : (at : ℕ) (stage : Stage) (v : Verdict) → at + 12 ≤ limit → foundBy s at stage v ≡ foundBy t at stage v
+  fields-agree :
+      (at kind elements links : ℕ) → at + longestRecord ≤ limit → fieldRules s at kind elements links ≡ fieldRules t at kind elements links
+  unfolding fieldRules headRules elementRules linkRules planHeadRules stepRules
+  fields-agree at kind elements links h = simp (record-words at h)
+
+  found-agrees : (at : ℕ) (stage : Stage) (v : Verdict) → at + longestRecord ≤ limit → foundBy s at stage v ≡ foundBy t at stage v
   found-agrees at stage Kept h = rw (agree .words at (omega arith), agree .words (at + 2) (omega arith))
   found-agrees at stage (Broken r) h = refl
 
   pub due-agrees :
-      (elements links at : ℕ) (stage : Stage) → at + 12 ≤ limit → dueAt s elements links at stage ≡ dueAt t elements links at stage
+      (elements links at : ℕ) (stage : Stage) → at + longestRecord ≤ limit → dueAt s elements links at stage ≡ dueAt t elements links at stage
   unfolding dueAt recordRules
   due-agrees elements links at stage h =
       let kinds : kindField s at ≡ kindField t at = agree .words (at + 2) (omega arith) in
@@ -110,10 +116,10 @@ module _ (limit : ℕ) (s t : List ℕ) (agree : Agree limit s t) where
   -- Runs, by what takes their records in.
 
   module _ {A : Type 0} (elements links : ℕ) (into into' : ℕ → A → A)
-      (same : (at : ℕ) (a : A) → at + 12 ≤ limit → into at a ≡ into' at a) where
+      (same : (at : ℕ) (a : A) → at + longestRecord ≤ limit → into at a ≡ into' at a) where
     step-agrees :
         (n at : ℕ) (stage : Stage) (a : A) →
-        at + 12 ≤ limit →
+        at + longestRecord ≤ limit →
         ((kind long : ℕ) (next : Stage) →
         dueAt t elements links at stage ≡ Record kind long next →
         records s elements links into n (at + long) next (into' at a) ≡ records t elements links into' n (at + long) next (into' at a)) →
@@ -134,7 +140,7 @@ module _ (limit : ℕ) (s t : List ℕ) (agree : Agree limit s t) where
 
     pub one-agrees :
         (at : ℕ) (stage : Stage) (a : A) →
-        at + 12 ≤ limit →
+        at + longestRecord ≤ limit →
         records s elements links into 1 at stage a ≡ records t elements links into' 1 at stage a
     one-agrees at stage a h =
         step-agrees 0 at stage a h
@@ -146,32 +152,31 @@ module _ (limit : ℕ) (s t : List ℕ) (agree : Agree limit s t) where
         (stage : Stage) →
         nextAt stage ≡ stage →
         (n at : ℕ) (a : A) →
-        at + longAt stage * n + 12 ≤ limit →
+        at + longest stage * n + longestRecord ≤ limit →
         records s elements links into n at stage a ≡ records t elements links into' n at stage a
     run-agrees stage back zero at a h = records-none s elements links into at stage a ∙ sym (records-none t elements links into' at stage a)
     run-agrees stage back (suc n) at a h =
-        let more = mul-suc (longAt stage) n in
+        let more = mul-suc (longest stage) n in
         step-agrees n at stage a (omega arith)
         (λ kind long next d.
         let f = due-kept t elements links at stage d .framed in
         let next-is : next ≡ stage = f .next-at ∙ back in
-        rw next-is (run-agrees stage back n (at + long) (into' at a) (omega (arith, f .long-at))))
+        rw next-is (run-agrees stage back n (at + long) (into' at a) (omega (arith, f .most))))
 
-  element-agrees : (at : ℕ) (n : Network) → at + 12 ≤ limit → withElement s at n ≡ withElement t at n
-  unfolding withElement
-  element-agrees at n h = rw (agree .words (at + 4) (omega arith), agree .words (at + 6) (omega arith), agree .words (at + 8) (omega arith))
+  element-agrees : (at : ℕ) (n : Network) → at + longestRecord ≤ limit → withElement s at n ≡ withElement t at n
+  unfolding withElement elementOf
+  element-agrees at n h = simp (record-words at h)
 
-  link-agrees : (at : ℕ) (n : Network) → at + 12 ≤ limit → withLink s at n ≡ withLink t at n
-  unfolding withLink
-  link-agrees at n h =
-      rw (agree .words (at + 4) (omega arith), agree .words (at + 6) (omega arith), agree .words (at + 8) (omega arith), agree .words (at + 10) (omega arith))
+  link-agrees : (at : ℕ) (n : Network) → at + longestRecord ≤ limit → withLink s at n ≡ withLink t at n
+  unfolding withLink linkOf
+  link-agrees at n h = simp (record-words at h)
 
-  pub nothing-agrees : {A : Type 0} (at : ℕ) (a : A) → at + 12 ≤ limit → _≡_ {A = A} (asIs at a) (asIs at a)
+  pub nothing-agrees : {A : Type 0} (at : ℕ) (a : A) → at + longestRecord ≤ limit → _≡_ {A = A} (asIs at a) (asIs at a)
   nothing-agrees at a h = refl
 
   -- The network file.
 
-  module _ (fits : 1812 ≤ limit) where
+  module _ (fits : networkLongest + longestRecord ≤ limit) where
     head-agrees : headRun s ≡ headRun t
     head-agrees = one-agrees 0 0 asIs asIs nothing-agrees 0 Head emptyNetwork (omega arith)
 
@@ -205,7 +210,7 @@ module _ (limit : ℕ) (s t : List ℕ) (agree : Agree limit s t) where
   pub closed-agrees : {A : Type 0} (at : ℕ) (stage : Stage) (a : A) → at < limit → closed s at stage a ≡ closed t at stage a
   closed-agrees at stage a h = rw (agree .past at h)
 
-  pub network-input-agrees : 1812 ≤ limit → networkInput s ≡ networkInput t
+  pub network-input-agrees : networkLongest + longestRecord ≤ limit → networkInput s ≡ networkInput t
   unfolding networkInput
   network-input-agrees fits =
       then-agree (networkFile s) (networkFile t) (closed s) (closed t) (network-file-agrees fits)

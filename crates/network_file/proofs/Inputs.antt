@@ -24,7 +24,8 @@ module _ {A : Type 0} (s : List ℕ) (empty : A) (o : Outcome A) (answer : Answe
   pub ended-accepted : answer ≡ Accepted → (answerOf (andThen o (closed s)) ≡ answer) × (valueOf empty (andThen o (closed s)) ≡ valueOf empty o)
   ended-accepted h = go o (sym ha ∙ h)
     where
-      go : (p : Outcome A) → endedBy s (reachedOf p) ≡ Accepted → (answerOf (andThen p (closed s)) ≡ answer) × (valueOf empty (andThen p (closed s)) ≡ valueOf empty p)
+      go : (p : Outcome A) → endedBy s (reachedOf p) ≡ Accepted → (answerOf (andThen p (closed s)) ≡ answer) ×
+          (valueOf empty (andThen p (closed s)) ≡ valueOf empty p)
       go (refused r) e = let z : _≡_ {A = ℕ} 0 1 = cc in absurd (omega arith)
       go (reached at stage a) e = by (ltb at (length s)) e
         where
@@ -38,7 +39,8 @@ module _ {A : Type 0} (s : List ℕ) (empty : A) (o : Outcome A) (answer : Answe
   pub ended-refused : (r : Refusal) → answer ≡ Refused r → (answerOf (andThen o (closed s)) ≡ answer) × (valueOf empty (andThen o (closed s)) ≡ empty)
   ended-refused r h = go o (sym ha ∙ h)
     where
-      go : (p : Outcome A) → endedBy s (reachedOf p) ≡ Refused r → (answerOf (andThen p (closed s)) ≡ answer) × (valueOf empty (andThen p (closed s)) ≡ empty)
+      go : (p : Outcome A) → endedBy s (reachedOf p) ≡ Refused r → (answerOf (andThen p (closed s)) ≡ answer) ×
+          (valueOf empty (andThen p (closed s)) ≡ empty)
       go (refused q) e = (e ∙ sym h, refl)
       go (reached at stage a) e = by (ltb at (length s)) e
         where
@@ -50,7 +52,8 @@ module _ {A : Type 0} (s : List ℕ) (empty : A) (o : Outcome A) (answer : Answe
           by false e = let z : _≡_ {A = ℕ} 0 1 = cc in absurd (omega arith)
 
 -- the struct that is handed back
-module _ (s : List ℕ) (o : Outcome Network) (part : NetworkPart) (answer : Answer) (hp : part ≡ networkPart o) (ha : answer ≡ endedBy s (part .reached)) where
+module _ (s : List ℕ) (o : Outcome Network) (part : NetworkPart) (answer : Answer) (hp : part ≡ networkPart o)
+    (ha : answer ≡ endedBy s (part .reached)) where
   network-answer : answer ≡ endedBy s (reachedOf o)
   unfolding networkPart
   network-answer = ha ∙ ap (λ (x : NetworkPart). endedBy s (x .reached)) hp
@@ -62,6 +65,7 @@ module _ (s : List ℕ) (o : Outcome Network) (part : NetworkPart) (answer : Ans
       let n : part .net ≡ valueOf emptyNetwork o = ap (λ (x : NetworkPart). x .net) hp in
       cc (q .0, q .1)
 
-  pub network-none : (net : Network) (r : Refusal) → net ≡ emptyNetwork → answer ≡ Refused r → _≡_ {A = NetworkRead} (record { answer = answer; net = net }) (networkRead (andThen o (closed s)))
+  pub network-none : (net : Network) (r : Refusal) → net ≡ emptyNetwork → answer ≡ Refused r → _≡_ {A = NetworkRead}
+      (record { answer = answer; net = net }) (networkRead (andThen o (closed s)))
   unfolding networkRead
   network-none net r hn h = let q = ended-refused s emptyNetwork o answer network-answer r h in cc (q .0, q .1)

@@ -7,6 +7,7 @@ use mathlib.Core.Logic.{_⊎_, inl, inr, ⊎-elim, ⊎-map}
 use Prim.Native.Nat.{ℕ, zero, suc, _+_, _<_, _≤_}
 use native.Mathlib.Omega.{arith}
 use lib.Dec.{eqb}
+use borrow.Author.Tests.{eqb-true}
 use Rattle.network.specs.declared.refusal.Refusal.{Refusal}
 use Rattle.network.specs.declared.refusal.Rule.{Rule}
 use Rattle.network.specs.declared.refusal.Verdict.the-variants.{Broken}
@@ -17,7 +18,7 @@ use Rattle.records.specs.declared.Found.the-variants.{Record, Refused}
 use Rattle.network.specs.declared.Network.{Network}
 use Rattle.network.specs.Refusals.{ruleNumber, Check, check, firstBroken}
 use Rattle.network.specs.Stages.{afterLast}
-use Rattle.records.specs.Records.{word, kindField, only, frameRules, headRules, elementRules, linkRules, planHeadRules, stepRules, fieldRules, recordRules, dueAt}
+use Rattle.records.specs.Records.{word, kindField, frameRules, headRules, elementRules, linkRules, planHeadRules, stepRules, fieldRules, recordRules, dueAt}
 use Rattle.network.specs.Networks.{emptyNetwork}
 use Rattle.network_file.specs.Runs.{refused, reached, records, asIs}
 use Rattle.network_file.specs.NetworkFiles.{withElement, withLink, networkFile}
@@ -65,31 +66,28 @@ rising-append : (low mid high : ℕ) (a b : List Check) → Rising low mid a →
 rising-append low mid high [] b l r = rising-lower low mid high b l r
 rising-append low mid high (c ∷ cs) b l r = (l .0, rising-append (ruleNumber (c .rule)) mid high cs b (l .1) r)
 
-rising-only : (t : Bool) (low high : ℕ) (cs : List Check) → low ≤ high → Rising low high cs → Rising low high (only t cs)
-rising-only true low high cs le r = r
-rising-only false low high cs le r = le
-
 frame-rises : (s : List ℕ) (at : ℕ) (stage : Stage) → Rising 0 4 (frameRules s at stage)
 unfolding frameRules
 frame-rises s at stage = omega arith
 
+-- by cases on the kind: of this kind, or of another
+of-kind : (P : ℕ → Type 0) (kind k : ℕ) → P k → (eqb kind k ≡ false → P kind) → P kind
+of-kind P kind k this other = go (eqb kind k) refl
+  where
+    go : (t : Bool) → eqb kind k ≡ t → P kind
+    go true e = rw (eqb-true kind k e) this
+    go false e = other e
+
 fields-rise : (s : List ℕ) (at kind elements links : ℕ) → Rising 4 12 (fieldRules s at kind elements links)
 unfolding fieldRules headRules elementRules linkRules planHeadRules stepRules
 fields-rise s at kind elements links =
-    let head = only (eqb kind 1) (headRules s at) in
-    let element = only (eqb kind 2) (elementRules s at) in
-    let link = only (eqb kind 3) (linkRules s at elements) in
-    let planHead = only (eqb kind 5) (planHeadRules s at) in
-    let step = only (eqb kind 6) (stepRules s at links) in
-    rising-append 4 10 12 (head ++ element ++ link ++ planHead) step
-    (rising-append 4 9 10 (head ++ element ++ link) planHead
-    (rising-append 4 6 9 (head ++ element) link
-    (rising-append 4 5 6 head element
-    (rising-only (eqb kind 1) 4 5 (headRules s at) (omega arith) (omega arith))
-    (rising-only (eqb kind 2) 5 6 (elementRules s at) (omega arith) (omega arith)))
-    (rising-only (eqb kind 3) 6 9 (linkRules s at elements) (omega arith) (omega arith)))
-    (rising-only (eqb kind 5) 9 10 (planHeadRules s at) (omega arith) (omega arith)))
-    (rising-only (eqb kind 6) 10 12 (stepRules s at links) (omega arith) (omega arith))
+    let Rise : ℕ → Type 0 = λ k. Rising 4 12 (fieldRules s at k elements links) in
+    of-kind Rise kind 1 (omega arith)
+    (λ e1.
+    of-kind Rise kind 2 (omega arith)
+    (λ e2.
+    of-kind Rise kind 3 (omega arith)
+    (λ e3. of-kind Rise kind 5 (omega arith) (λ e5. of-kind Rise kind 6 (omega arith) (λ e6. rw (e1, e2, e3, e5, e6) (omega arith))))))
 
 -- Document 01's order: a record's rules stand by rising numbers, 1 to 12.
 pub rules-rise : (s : List ℕ) (elements links at : ℕ) (stage : Stage) → Rising 0 12 (recordRules s elements links at stage)

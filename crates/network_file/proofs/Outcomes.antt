@@ -17,7 +17,7 @@ use Rattle.network.specs.Networks.{emptyNetwork}
 use Rattle.network_file.specs.Runs.{Outcome, refused, reached, andThen, records}
 use Rattle.network_file.specs.Inputs.{reachedOf, valueOf, networkPart}
 use lib.ListN.{length}
-use Rattle.records.proofs.Due.{longAt, nextAt, due-kept}
+use Rattle.records.proofs.Due.{shortest, nextAt, due-kept}
 use Rattle.network_file.proofs.Runs.{records-none, records-refused, records-more}
 
 -- an outcome as a struct: how far it came and what was read
@@ -76,7 +76,8 @@ module _ {B : Type 0} (o : Outcome Network) (f : ℕ → Stage → Network → O
   network-reached at stage = wrapped-reached emptyNetwork networkPart (λ p. p .reached) (λ p. p .net) network-how network-what o f x at stage
 
 -- a loop over records keeps "what is left to read gives the whole outcome"
-module _ {A : Type 0} (s : List ℕ) (elements links : ℕ) (into : ℕ → A → A) (o : Outcome A) (left at : ℕ) (stage : Stage) (a : A) (inv : records s elements links into left at stage a ≡ o) where
+module _ {A : Type 0} (s : List ℕ) (elements links : ℕ) (into : ℕ → A → A) (o : Outcome A) (left at : ℕ) (stage : Stage) (a : A)
+    (inv : records s elements links into left at stage a ≡ o) where
   pub run-done : left ≤ 0 → reached at stage a ≡ o
   run-done h = let z : left ≡ 0 = omega arith in sym (records-none s elements links into at stage a) ∙ rw z at inv
 
@@ -84,16 +85,23 @@ module _ {A : Type 0} (s : List ℕ) (elements links : ℕ) (into : ℕ → A �
     pub run-refused : (r : Refusal) → found ≡ Found·Refused r → refused r ≡ o
     run-refused r h = sym (records-refused s elements links into left at stage a r some (sym due ∙ h)) ∙ inv
 
-    pub run-turn : (kind long : ℕ) (next : Stage) → found ≡ Record kind long next → records s elements links into (left - 1) (at + long) next (into at a) ≡ o
+    pub run-turn : (kind long : ℕ) (next : Stage) → found ≡ Record kind long next → records s elements links into (left - 1) (at + long) next
+        (into at a) ≡ o
     run-turn kind long next h = sym (records-more s elements links into left at stage a kind long next some (sym due ∙ h)) ∙ inv
 
--- a record found at a known stage: it fits, and the stage gives its length and what comes next
+-- a record found at a known stage: it fits, it is as long as the shortest there, and the stage gives what comes next
+pub record Turn (s : List ℕ) (at : ℕ) (known : Stage) (long : ℕ) (next : Stage) : Type 0 where
+  pub enough : at + shortest known ≤ length s
+  pub fits : at + long ≤ length s
+  pub next-is : next ≡ nextAt known
+
 pub turn-whole :
     (s : List ℕ) (elements links at : ℕ) (stage known : Stage) (found : Found) (kind long : ℕ) (next : Stage) →
     found ≡ dueAt s elements links at stage →
     stage ≡ known →
     found ≡ Record kind long next →
-    (at + long ≤ length s) × (long ≡ longAt known) × (next ≡ nextAt known)
+    Turn s at known long next
 turn-whole s elements links at stage known found kind long next due e h =
-    let f = due-kept s elements links at stage (sym due ∙ h) .framed in
-    (f .fits, f .long-at ∙ ap longAt e, f .next-at ∙ ap nextAt e)
+    let here : dueAt s elements links at known ≡ Record kind long next = rw e at (sym due ∙ h) in
+    let f = due-kept s elements links at known here .framed in
+    record { enough = omega (arith, f .enough, f .fits); fits = f .fits; next-is = f .next-at }

@@ -2,7 +2,7 @@
 -- Assumes nothing.
 use mathlib.Core.Path.{_≡_, refl, sym, ap, _∙_}
 use mathlib.Core.List.{List}
-use Prim.Native.Nat.{ℕ, zero, suc, _+_, _-_, _*_, _<_}
+use Prim.Native.Nat.{ℕ, zero, suc, _+_, _-_, _*_, _<_, _≤_}
 use native.Mathlib.Nat.{not-suc-le-zero, mul-suc, mul-zero}
 use native.Mathlib.Omega.{arith}
 use Rattle.network.specs.declared.refusal.Refusal.{Refusal}
@@ -11,18 +11,7 @@ use Rattle.records.specs.declared.Found.{Found}
 use Rattle.records.specs.declared.Found.the-variants.{Record, Refused}
 use Rattle.records.specs.Records.{dueAt}
 use Rattle.network_file.specs.Runs.{refused, reached, onFound, records}
-use Rattle.records.proofs.Due.{Whole, kindAt, longAt, nextAt, due-kept}
-
--- so many records of a stage are read, so many are left
-record SoFar (done n at : ℕ) (stage : Stage) (left at' : ℕ) (stage' : Stage) : Type 0 where
-  pub counted : done + left ≡ n
-  pub at-is : at' ≡ at + longAt stage * done
-  pub stage-is : stage' ≡ stage
-
--- the record of a number, in a run at a stage that leads back to itself
-abbrev pub WholeAt : List ℕ → ℕ → ℕ → ℕ → Stage → ℕ → Type 0
-WholeAt s elements links at stage j =
-    Whole s elements links (at + longAt stage * j) stage (kindAt stage) (longAt stage) (nextAt stage)
+use Rattle.records.proofs.Due.{Whole, nextAt, longest, due-kept}
 
 module _ {A : Type 0} (s : List ℕ) (elements links : ℕ) (into : ℕ → A → A) where
   pub records-none : (at : ℕ) (stage : Stage) (a : A) → records s elements links into 0 at stage a ≡ reached at stage a
@@ -57,6 +46,37 @@ module _ {A : Type 0} (s : List ℕ) (elements links : ℕ) (into : ℕ → A �
       let less : suc n - 1 ≡ n = omega arith in
       rw less (records-suc n at stage a kind long next e)
 
+  -- one record more, behind a run
+  pub records-behind :
+      (n at : ℕ) (stage : Stage) (a : A) (at' : ℕ) (stage' : Stage) (a' : A) (kind long : ℕ) (next : Stage) →
+      records s elements links into n at stage a ≡ reached at' stage' a' →
+      dueAt s elements links at' stage' ≡ Record kind long next →
+      records s elements links into (suc n) at stage a ≡ reached (at' + long) next (into at' a')
+  records-behind zero at stage a at' stage' a' kind long next e d =
+      let q = sym (records-none at stage a) ∙ e in
+      let at-is : at ≡ at' = cc in
+      let stage-is : stage ≡ stage' = cc in
+      let a-is : a ≡ a' = cc in
+      rw (at-is, stage-is, a-is)
+      (records-suc 0 at' stage' a' kind long next d ∙ records-none (at' + long) next (into at' a'))
+  records-behind (suc n) at stage a at' stage' a' kind long next e d =
+      go (dueAt s elements links at stage) refl
+      (λ at'' stage'' a'' e'. records-behind n at'' stage'' a'' at' stage' a' kind long next e' d)
+    where
+      go : (f : Found) →
+          dueAt s elements links at stage ≡ f →
+          ((at'' : ℕ) (stage'' : Stage) (a'' : A) →
+          records s elements links into n at'' stage'' a'' ≡ reached at' stage' a' →
+          records s elements links into (suc n) at'' stage'' a'' ≡ reached (at' + long) next (into at' a')) →
+          records s elements links into (suc (suc n)) at stage a ≡ reached (at' + long) next (into at' a')
+      go (Record kind' long' next') d' rest =
+          records-suc (suc n) at stage a kind' long' next' d' ∙
+          rest (at + long') next' (into at a) (sym (records-suc n at stage a kind' long' next' d') ∙ e)
+      go (Refused r) d' rest =
+          let none = records-refused (suc n) at stage a r (omega arith) d' in
+          let z : _≡_ {A = ℕ} 0 1 = cc in
+          absurd (omega arith)
+
   -- a property of the records left, the offset, the stage and the value
   pub records-keep :
       (P : ℕ → ℕ → Stage → A → Type 0) →
@@ -77,7 +97,8 @@ module _ {A : Type 0} (s : List ℕ) (elements links : ℕ) (into : ℕ → A �
     where
       go : (f : Found) →
           dueAt s elements links at stage ≡ f →
-          ((at' : ℕ) (stage' : Stage) (a' : A) → P n at' stage' a' → records s elements links into n at' stage' a' ≡ reached end last b → P 0 end last b) →
+          ((at' : ℕ) (stage' : Stage) (a' : A) → P n at' stage' a' → records s elements links into n at' stage' a' ≡ reached end last b → P 0 end last
+          b) →
           P 0 end last b
       go (Record kind long next) d rest =
           rest (at + long) next (into at a) (step n at stage a kind long next d p)
@@ -86,6 +107,22 @@ module _ {A : Type 0} (s : List ℕ) (elements links : ℕ) (into : ℕ → A �
           let none = records-refused (suc n) at stage a r (omega arith) d in
           let z : _≡_ {A = ℕ} 0 1 = cc in
           absurd (omega arith)
+
+  -- the record of a number in a run at one stage: the records before it end at it, and it breaks no rule
+  pub record Nth (at : ℕ) (stage : Stage) (a : A) (j : ℕ) : Type 0 where
+    pub place : ℕ
+    pub value : A
+    pub before : records s elements links into j at stage a ≡ reached place stage value
+    pub kind : ℕ
+    pub long : ℕ
+    pub whole : Whole s elements links place stage kind long stage
+
+  -- so many records of a stage are read, so many are left
+  record SoFar (done n at : ℕ) (stage : Stage) (a : A) (left at' : ℕ) (stage' : Stage) (a' : A) : Type 0 where
+    pub counted : done + left ≡ n
+    pub before : records s elements links into done at stage a ≡ reached at' stage a'
+    pub at-most : at' ≤ at + longest stage * done
+    pub stage-is : stage' ≡ stage
 
   module _ (n at : ℕ) (stage : Stage) (a : A) (end : ℕ) (last : Stage) (b : A)
       (run : records s elements links into n at stage a ≡ reached end last b) where
@@ -101,60 +138,67 @@ module _ {A : Type 0} (s : List ℕ) (elements links : ℕ) (into : ℕ → A �
         (λ m at' stage' a' kind long next d p. omega (arith, more at' a')) n at stage a end last b refl run
         in omega arith
 
-    -- at a stage that its kind leads back to
+    -- at a stage that its kinds lead back to
     module _ (back : nextAt stage ≡ stage) where
-      -- every record is of the stage's length, so the one of each number stands where the numbers before it end
+      -- no record is longer than the stage's longest
       run-counted :
           (I : ℕ → A → Type 0) →
           I 0 a →
-          ((done : ℕ) (a' : A) → done < n → WholeAt s elements links at stage done → I done a' → I (suc done) (into (at + longAt stage * done) a')) →
-          (end ≡ at + longAt stage * n) × (last ≡ stage) × I n b
+          ((done : ℕ) → done < n → (r : Nth at stage a done) → I done (r .value) → I (suc done) (into (r .place) (r .value))) →
+          (end ≤ at + longest stage * n) × (last ≡ stage) × I n b
       run-counted I first more =
           let r =
           records-keep
-          (λ left at' stage' a'. (done : ℕ) × SoFar done n at stage left at' stage' × I done a')
+          (λ left at' stage' a'. (done : ℕ) × SoFar done n at stage a left at' stage' a' × I done a')
           (λ left at' stage' a' kind long next d p. step left at' stage' a' kind long next d (p .0) (p .1) (p .2))
-          n at stage a end last b
-          (0, record { counted = omega arith; at-is = omega (arith, mul-zero (longAt stage)); stage-is = refl }, first) run
+          n at stage a end last b (
+            0,
+            record { counted = omega arith; before = records-none at stage a; at-most = omega (arith, mul-zero (longest stage)); stage-is = refl },
+            first,
+          ) run
           in
           let all : r .0 ≡ n = omega (arith, r .1 .counted) in
-          (r .1 .at-is ∙ ap (λ (k : ℕ). at + longAt stage * k) all, r .1 .stage-is, rw all at (r .2))
+          let ends : end ≤ at + longest stage * n = rw (sym all) (r .1 .at-most) in
+          (ends, r .1 .stage-is, rw all at (r .2))
         where
           step : (left at' : ℕ) (stage' : Stage) (a' : A) (kind long : ℕ) (next : Stage) →
               dueAt s elements links at' stage' ≡ Record kind long next →
               (done : ℕ) →
-              SoFar done n at stage (suc left) at' stage' →
+              SoFar done n at stage a (suc left) at' stage' a' →
               I done a' →
-              (done : ℕ) × SoFar done n at stage left (at' + long) next × I done (into at' a')
+              (done : ℕ) × SoFar done n at stage a left (at' + long) next (into at' a') × I done (into at' a')
           step left at' stage' a' kind long next d done p old =
-              let w = due-kept s elements links at' stage' d in
-              let long-is : long ≡ longAt stage = w .framed .long-at ∙ ap longAt (p .stage-is) in
-              let kind-is : kind ≡ kindAt stage = w .framed .kind-at ∙ ap kindAt (p .stage-is) in
-              let next-is : next ≡ nextAt stage = w .framed .next-at ∙ ap nextAt (p .stage-is) in (
+              let here : dueAt s elements links at' stage ≡ Record kind long next = rw (p .stage-is) at d in
+              let w = due-kept s elements links at' stage here in
+              let next-is : next ≡ stage = w .framed .next-at ∙ back in (
                 suc done,
                 record {
                   counted = omega (arith, p .counted);
-                  at-is = omega (arith, p .at-is, mul-suc (longAt stage) done);
-                  stage-is = next-is ∙ back;
+                  before = rw next-is at (records-behind done at stage a at' stage a' kind long next (p .before) here);
+                  at-most = omega (arith, p .at-most, w .framed .most, mul-suc (longest stage) done);
+                  stage-is = next-is;
                 },
-                rw (p .at-is) (more done a' (omega (arith, p .counted)) (rw (p .at-is, p .stage-is, kind-is, long-is, next-is) at w) old),
+                more done (omega (arith, p .counted))
+                    (record { place = at'; value = a'; before = p .before; kind = kind; long = long; whole = rw next-is at w }) old,
               )
 
       -- what holds after so many records
       pub run-keeps :
           (I : ℕ → A → Type 0) →
           I 0 a →
-          ((done : ℕ) (a' : A) → done < n → WholeAt s elements links at stage done → I done a' → I (suc done) (into (at + longAt stage * done) a')) →
+          ((done : ℕ) → done < n → (r : Nth at stage a done) → I done (r .value) → I (suc done) (into (r .place) (r .value))) →
           I n b
       run-keeps I first more = run-counted I first more .2
 
-      pub run-ends : (end ≡ at + longAt stage * n) × (last ≡ stage)
-      run-ends = let r = run-counted (λ k a'. Unit {0}) tt (λ done a' lt whole old. tt) in (r .0, r .1)
+      pub run-ends : (end ≤ at + longest stage * n) × (last ≡ stage)
+      run-ends = let r = run-counted (λ k a'. Unit {0}) tt (λ done lt r old. tt) in (r .0, r .1)
 
   -- a run of one record
   pub record One (at : ℕ) (stage : Stage) (a : A) (end : ℕ) (last : Stage) (b : A) : Type 0 where
-    pub whole : Whole s elements links at stage (kindAt stage) (longAt stage) (nextAt stage)
-    pub ends : end ≡ at + longAt stage
+    pub kind : ℕ
+    pub long : ℕ
+    pub whole : Whole s elements links at stage kind long last
+    pub ends : end ≡ at + long
     pub last-is : last ≡ nextAt stage
     pub value-is : b ≡ into at a
 
@@ -168,10 +212,12 @@ module _ {A : Type 0} (s : List ℕ) (elements links : ℕ) (into : ℕ → A �
       go (Record kind long next) d =
           let w = due-kept s elements links at stage d in
           let only = records-suc 0 at stage a kind long next d ∙ records-none (at + long) next (into at a) in
-          let end-is : end ≡ at + long = cc in
+          let next-is : next ≡ last = cc in
           record {
-            whole = rw (w .framed .kind-at, w .framed .long-at, w .framed .next-at) at w;
-            ends = omega (arith, w .framed .long-at);
+            kind = kind;
+            long = long;
+            whole = rw next-is at w;
+            ends = cc;
             last-is = cc (w .framed .next-at);
             value-is = cc;
           }

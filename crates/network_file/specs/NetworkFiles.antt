@@ -2,44 +2,29 @@
 -- Assumes nothing.
 use mathlib.Core.List.{List}
 use Prim.Native.Nat.{ℕ, _+_}
-use lib.ListN.{set}
+use Rattle.network.specs.declared.Element.{Element}
+use Rattle.network.specs.declared.Link.{Link}
 use Rattle.network.specs.declared.Network.{Network}
 use Rattle.network.specs.declared.stage.Stage.{Stage}
 use Rattle.network.specs.declared.stage.Stage.the-variants.{Head}
-use Rattle.network.specs.Networks.{emptyNetwork}
+use Rattle.network.specs.Networks.{emptyNetwork, elementAdded, linkAdded}
 use Rattle.records.specs.Records.{word}
 use Rattle.network.specs.Stages.{afterLast}
 use Rattle.network_file.specs.Runs.{Outcome, andThen, records, asIs}
 
 -- Kind 2: own load, capacity, flags
-unfoldable pub withElement : List ℕ → ℕ → Network → Network
-withElement s at n =
-    record {
-      load = set (n .load) (n .elements) (word s (at + 4));
-      capacity = set (n .capacity) (n .elements) (word s (at + 6));
-      flags = set (n .flags) (n .elements) (word s (at + 8));
-      from = n .from;
-      to = n .to;
-      form = n .form;
-      cost = n .cost;
-      elements = n .elements + 1;
-      links = n .links;
-    }
+unfoldable pub elementOf : List ℕ → ℕ → Element
+elementOf s at = record { load = word s (at + 4); capacity = word s (at + 6); flags = word s (at + 8) }
 
 -- Kind 3: two different elements, form, cost
+unfoldable pub linkOf : List ℕ → ℕ → Link
+linkOf s at = record { from = word s (at + 4); to = word s (at + 6); form = word s (at + 8); cost = word s (at + 10) }
+
+unfoldable pub withElement : List ℕ → ℕ → Network → Network
+withElement s at n = elementAdded n (elementOf s at)
+
 unfoldable pub withLink : List ℕ → ℕ → Network → Network
-withLink s at n =
-    record {
-      load = n .load;
-      capacity = n .capacity;
-      flags = n .flags;
-      from = set (n .from) (n .links) (word s (at + 4));
-      to = set (n .to) (n .links) (word s (at + 6));
-      form = set (n .form) (n .links) (word s (at + 8));
-      cost = set (n .cost) (n .links) (word s (at + 10));
-      elements = n .elements;
-      links = n .links + 1;
-    }
+withLink s at n = linkAdded n (linkOf s at)
 
 -- "A network file is one head, E elements, K links, one end." The head stands at offset 0: E is the number at 4, K the one at 6.
 unfoldable pub endOn : List ℕ → ℕ → Stage → Network → Outcome Network

@@ -1,4 +1,6 @@
 // The network file: one head, its elements, its links, one end.
+use network::Element;
+use network::Link;
 use network::Network;
 use network::refusal::Refusal;
 use network::stage::Stage;
@@ -12,7 +14,7 @@ ghost use lib.ListN.{length};
 ghost use Rattle.records.specs.Records.{word};
 ghost use Rattle.network.specs.Networks.{emptyNetwork};
 ghost use Rattle.network_file.specs.Runs.{records, refused};
-ghost use Rattle.network_file.specs.NetworkFiles.{withElement, withLink, networkFile, elementsOn, linksOn, endOn};
+ghost use Rattle.network_file.specs.NetworkFiles.{elementOf, linkOf, withElement, withLink, networkFile, elementsOn, linksOn, endOn};
 ghost use Rattle.network_file.specs.Inputs.{networkPart};
 ghost use Rattle.network.specs.declared.stage.Stage.{Stage};
 ghost use Rattle.network.specs.declared.stage.Stage.the-variants.{Elements, Links};
@@ -39,6 +41,38 @@ fn refused_network(refusal: Refusal) -> NetworkPart
     }
 }
 
+// The fields of the element record at an offset.
+fn element_at(s: &[u8], at: usize) -> Element
+    requires { ⌜ at + 10 ≤ length (now s) ⌝ }
+    ensures { λ r. ⌜ r ≡ elementOf (now (s .entry)) at ⌝ }
+{
+    let load = word_at(s, at + 4) as u32;
+    let capacity = word_at(s, at + 6) as u32;
+    let flags = word_at(s, at + 8);
+    Element {
+        load,
+        capacity,
+        flags,
+    }
+}
+
+// The fields of the link record at an offset.
+fn link_at(s: &[u8], at: usize) -> Link
+    requires { ⌜ at + 12 ≤ length (now s) ⌝ }
+    ensures { λ r. ⌜ r ≡ linkOf (now (s .entry)) at ⌝ }
+{
+    let from = word_at(s, at + 4);
+    let to = word_at(s, at + 6);
+    let form = word_at(s, at + 8);
+    let cost = word_at(s, at + 10);
+    Link {
+        from,
+        to,
+        form,
+        cost,
+    }
+}
+
 // So many element records from an offset on.
 fn read_elements(s: &[u8], count: usize, start: usize, first: Stage) -> NetworkPart
     requires { ⌜ (count ≤ 64) × (first ≡ Elements) ⌝ }
@@ -59,10 +93,11 @@ fn read_elements(s: &[u8], count: usize, start: usize, first: Stage) -> NetworkP
                 length,
                 next,
             } => {
+                let element = element_at(s, at);
                 let i = net.elements;
-                net.load[i] = word_at(s, at + 4) as u32;
-                net.capacity[i] = word_at(s, at + 6) as u32;
-                net.flags[i] = word_at(s, at + 8);
+                net.load[i] = element.load;
+                net.capacity[i] = element.capacity;
+                net.flags[i] = element.flags;
                 net.elements = i + 1;
                 at += length as usize;
                 stage = next;
@@ -97,11 +132,12 @@ fn read_links(s: &[u8], count: usize, start: usize, first: Stage, elements: Netw
                 length,
                 next,
             } => {
+                let link = link_at(s, at);
                 let i = net.links;
-                net.from[i] = word_at(s, at + 4);
-                net.to[i] = word_at(s, at + 6);
-                net.form[i] = word_at(s, at + 8);
-                net.cost[i] = word_at(s, at + 10);
+                net.from[i] = link.from;
+                net.to[i] = link.to;
+                net.form[i] = link.form;
+                net.cost[i] = link.cost;
                 net.links = i + 1;
                 at += length as usize;
                 stage = next;

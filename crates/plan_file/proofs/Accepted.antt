@@ -22,5 +22,5 @@ plan-well-formed s links head at stage p h =
       steps-fit = omega (arith, size .steps .steps-fit, size .steps .steps-are);
       link-long = holds .link-long;
       close-long = holds .close-long;
-      link-in = λ i lt. rw (holds .step i lt .link-is) (step-kept (holds .step i lt .whole) .link-in);
+      link-in = λ i lt. rw (holds .step i lt .link-is) (step-kept (holds .step i lt .found .whole) .link-in);
     }

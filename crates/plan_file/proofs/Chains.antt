@@ -20,10 +20,12 @@ module _ (s : List ℕ) (links head at : ℕ) (stage : Stage) (part : PlanPart) 
   abbrev thenPlanEnd : ℕ → Stage → Plan → Outcome Plan
   thenPlanEnd after next plan = planEndOn s links after (afterLast next) plan
 
-  pub steps-refused : (r : Refusal) → part ≡ planPart (stepsRun s links head at stage emptyPlan) → part .reached ≡ Refused r → part ≡ planPart (stepsOn s links head at stage emptyPlan)
+  pub steps-refused : (r : Refusal) → part ≡ planPart (stepsRun s links head at stage emptyPlan) → part .reached ≡ Refused r → part ≡ planPart
+      (stepsOn s links head at stage emptyPlan)
   unfolding stepsOn
   steps-refused r hp h = let q = plan-refused (stepsRun s links head at stage emptyPlan) thenPlanEnd part r hp h in q .0 ∙ ap planPart (q .1)
 
-  pub steps-reached : (after : ℕ) (next : Stage) → part ≡ planPart (stepsRun s links head at stage emptyPlan) → part .reached ≡ At after next → planEndOn s links after (afterLast next) (part .plan) ≡ stepsOn s links head at stage emptyPlan
+  pub steps-reached : (after : ℕ) (next : Stage) → part ≡ planPart (stepsRun s links head at stage emptyPlan) → part .reached ≡ At after next →
+      planEndOn s links after (afterLast next) (part .plan) ≡ stepsOn s links head at stage emptyPlan
   unfolding stepsOn
   steps-reached after next hp h = plan-reached (stepsRun s links head at stage emptyPlan) thenPlanEnd part after next hp h .1

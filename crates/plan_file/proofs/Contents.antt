@@ -3,7 +3,7 @@
 use mathlib.Core.Path.{_≡_, refl}
 use mathlib.Core.Bool.{false}
 use mathlib.Core.List.{List}
-use Prim.Native.Nat.{ℕ, _+_, _*_, _<_, _≤_}
+use Prim.Native.Nat.{ℕ, _+_, _<_, _≤_}
 use native.Mathlib.Omega.{arith}
 use lib.Dec.{eqb}
 use lib.ListN.{length, getD}
@@ -13,16 +13,16 @@ use Rattle.plan_file.specs.declared.plan.Plan.{Plan}
 use Rattle.records.specs.Records.{word}
 use Rattle.network_file.specs.Runs.{reached}
 use Rattle.plan_file.specs.PlanFiles.{emptyPlan, withStep, planFile}
-use Rattle.records.proofs.Due.{Whole, kindAt, longAt, nextAt}
-use Rattle.plan_file.proofs.Sizes.{StepsRead, plan-size}
-use Rattle.network_file.proofs.Contents.{run-whole, run-long, run-fills}
+use Rattle.network_file.proofs.Runs.{Nth}
+use Rattle.network_file.proofs.Contents.{run-nth, run-long, run-fills}
+use Rattle.plan_file.proofs.Sizes.{PlanSize, StepsRead, plan-size}
 
--- The steps of the file: the record of each, and the fields of it that are kept.
+-- The steps of the file: the record of each, behind those before it, and the fields of it that are kept.
 
 pub record StepAt (s : List ℕ) (links head : ℕ) (p : Plan) (i : ℕ) : Type 0 where
-  pub whole : Whole s 0 links (head + 6 + 8 * i) Steps (kindAt Steps) (longAt Steps) (nextAt Steps)
-  pub link-is : getD (p .link) i 0 ≡ word s (head + 6 + 8 * i + 4)
-  pub close-is : getD (p .close) i false ≡ eqb (word s (head + 6 + 8 * i + 6)) 1
+  pub found : Nth s 0 links (withStep s) (head + 6) Steps emptyPlan i
+  pub link-is : getD (p .link) i 0 ≡ word s (found .place + 4)
+  pub close-is : getD (p .close) i false ≡ eqb (word s (found .place + 6)) 1
 
 pub record PlanHolds (s : List ℕ) (links head : ℕ) (p : Plan) : Type 0 where
   pub link-long : length (p .link) ≡ 255
@@ -43,19 +43,25 @@ plan-holds s links head at stage p h =
       step =
           λ i lt.
           let lt' : i < word s (head + 4) = omega (arith, steps .steps-are) in
+          let found = run-nth s 0 links (withStep s) (word s (head + 4)) (head + 6) Steps emptyPlan _ Steps p (steps .run) refl i lt' in
           record {
-            whole = run-whole s 0 links (withStep s) (word s (head + 4)) (head + 6) Steps emptyPlan _ Steps p (steps .run) refl i lt';
+            found = found;
             link-is =
-                run-fills s 0 links (withStep s) (word s (head + 4)) (head + 6) Steps emptyPlan _ Steps p (steps .run) refl (λ p. p .link) (λ p. p .steps)
-                (λ at. word s (at + 4)) 0 refl fits (λ at p. refl) (λ at p. refl) i lt';
+                run-fills s 0 links (withStep s) (word s (head + 4)) (head + 6) Steps emptyPlan _ Steps p (steps .run) refl (λ p. p .link)
+                (λ p. p .steps)
+                (λ at. word s (at + 4)) 0 refl fits (λ at p. refl) (λ at p. refl) i lt' found;
             close-is =
-                run-fills s 0 links (withStep s) (word s (head + 4)) (head + 6) Steps emptyPlan _ Steps p (steps .run) refl (λ p. p .close) (λ p. p .steps)
-                (λ at. eqb (word s (at + 6)) 1) false refl fits (λ at p. refl) (λ at p. refl) i lt';
+                run-fills s 0 links (withStep s) (word s (head + 4)) (head + 6) Steps emptyPlan _ Steps p (steps .run) refl (λ p. p .close)
+                (λ p. p .steps)
+                (λ at. eqb (word s (at + 6)) 1) false refl fits (λ at p. refl) (λ at p. refl) i lt' found;
           };
     }
   where
-    steps : StepsRead s links head (head + 6 + 8 * word s (head + 4)) Steps p
-    steps = plan-size s links head at stage p h .steps
+    size : PlanSize s links head at stage p
+    size = plan-size s links head at stage p h
+
+    steps : StepsRead s links head (size .steps-end) Steps p
+    steps = size .steps
 
     fits : word s (head + 4) ≤ 255
     fits = steps .steps-fit

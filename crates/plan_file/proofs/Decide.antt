@@ -15,18 +15,19 @@ use Rattle.plan_file.specs.PlanFiles.{emptyPlan, withStep, planFile}
 use Rattle.network_file.specs.Inputs.{closed}
 use Rattle.plan_file.specs.Inputs.{planInput, paired, planBehind, bothInput}
 use Rattle.plan_file.proofs.Parts.{planHeadRun, stepsRun, planEndRun, withSteps, plan-chain}
-use Rattle.network_file.proofs.Sizes.{network-size}
-use Rattle.plan_file.proofs.Sizes.{plan-head-read, steps-read, plan-size}
-use Rattle.network_file.proofs.Decide.{Agree, take-agrees, then-agree, one-agrees, run-agrees, nothing-agrees, closed-agrees, network-file-agrees}
+use Rattle.records.proofs.Due.{longestRecord}
+use Rattle.network_file.proofs.Sizes.{networkLongest, network-size}
+use Rattle.plan_file.proofs.Sizes.{planLongest, plan-head-read, steps-read, plan-size}
+use Rattle.network_file.proofs.Decide.{Agree, take-agrees, then-agree, record-words, one-agrees, run-agrees, nothing-agrees, closed-agrees, network-file-agrees}
 
 module _ (limit : ℕ) (s t : List ℕ) (agree : Agree limit s t) where
-  plan-step-agrees : (at : ℕ) (p : Plan) → at + 12 ≤ limit → withStep s at p ≡ withStep t at p
+  plan-step-agrees : (at : ℕ) (p : Plan) → at + longestRecord ≤ limit → withStep s at p ≡ withStep t at p
   unfolding withStep
-  plan-step-agrees at p h = rw (agree .words (at + 4) (omega arith), agree .words (at + 6) (omega arith))
+  plan-step-agrees at p h = simp (record-words limit s t agree at h)
 
   -- The plan file at an offset.
 
-  module _ (links head : ℕ) (fits : head + 2058 ≤ limit) where
+  module _ (links head : ℕ) (fits : head + planLongest + longestRecord ≤ limit) where
     plan-head-agrees : planHeadRun s links head ≡ planHeadRun t links head
     plan-head-agrees = one-agrees limit s t agree 0 links asIs asIs (nothing-agrees limit s t agree) head PlanHead emptyPlan (omega arith)
 
@@ -49,16 +50,17 @@ module _ (limit : ℕ) (s t : List ℕ) (agree : Agree limit s t) where
 
   -- Rule 13, and the inputs.
 
-  pub plan-input-agrees : (links head : ℕ) → head + 2058 ≤ limit → planInput s links head ≡ planInput t links head
+  pub plan-input-agrees : (links head : ℕ) → head + planLongest + longestRecord ≤ limit → planInput s links head ≡ planInput t links head
   unfolding planInput
   plan-input-agrees links head fits =
       then-agree (planFile s links head) (planFile t links head) (closed s) (closed t) (plan-file-agrees links head fits)
       (λ at stage p e. closed-agrees limit s t agree at stage p (omega (arith, plan-size t links head at stage p e .at-most)))
 
-  pub both-input-agrees : 3862 ≤ limit → bothInput s ≡ bothInput t
+  pub both-input-agrees : networkLongest + planLongest + longestRecord ≤ limit → bothInput s ≡ bothInput t
   unfolding bothInput planBehind
   both-input-agrees fits =
-      then-agree (networkFile s) (networkFile t) (λ at stage n. planBehind s at n) (λ at stage n. planBehind t at n) (network-file-agrees limit s t agree (omega arith))
+      then-agree (networkFile s) (networkFile t) (λ at stage n. planBehind s at n) (λ at stage n. planBehind t at n)
+      (network-file-agrees limit s t agree (omega arith))
       (λ at stage n e.
       ap (λ (o : Outcome Plan). andThen o (paired n))
       (plan-input-agrees (n .links) at (omega (arith, network-size t at stage n e .at-most))))

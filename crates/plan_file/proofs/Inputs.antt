@@ -32,7 +32,8 @@ module _ (s : List ℕ) (o : Outcome Plan) (part : PlanPart) (answer : Answer) (
       let n : part .plan ≡ valueOf emptyPlan o = ap (λ (x : PlanPart). x .plan) hp in
       cc (q .0, q .1)
 
-  pub plan-none : (plan : Plan) (r : Refusal) → plan ≡ emptyPlan → answer ≡ Refused r → _≡_ {A = PlanRead} (record { answer = answer; plan = plan }) (planRead (andThen o (closed s)))
+  pub plan-none : (plan : Plan) (r : Refusal) → plan ≡ emptyPlan → answer ≡ Refused r → _≡_ {A = PlanRead} (record { answer = answer; plan = plan })
+      (planRead (andThen o (closed s)))
   unfolding planRead
   plan-none plan r hn h = let q = ended-refused s emptyPlan o answer plan-answer r h in cc (q .0, q .1)
 

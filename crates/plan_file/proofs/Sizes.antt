@@ -1,4 +1,4 @@
--- How long the plan file and the inputs that hold it are: a head counts its records, and each stage's records are of one length.
+-- How long the plan file and the inputs that hold it are at most: a head counts its records, and each stage has a longest record.
 -- Assumes nothing.
 use mathlib.Core.Path.{_≡_, refl, sym, ap, _∙_}
 use mathlib.Core.List.{List}
@@ -14,13 +14,16 @@ use Rattle.network_file.specs.Runs.{reached, records, asIs}
 use Rattle.network_file.specs.NetworkFiles.{networkFile}
 use Rattle.plan_file.specs.PlanFiles.{emptyPlan, withStep, planFile}
 use Rattle.plan_file.specs.Inputs.{planInput, paired, planBehind, bothInput}
-use Rattle.records.proofs.Due.{plan-head-kept}
+use Rattle.records.proofs.Due.{longest, plan-head-kept}
 use Rattle.network_file.proofs.Runs.{run-count, run-ends, one-record}
 use Rattle.network_file.proofs.Parts.{then-reached, closed-reached}
 use Rattle.plan_file.proofs.Parts.{planHeadRun, stepsRun, planEndRun, withSteps, plan-chain}
-use Rattle.network_file.proofs.Sizes.{network-size}
+use Rattle.network_file.proofs.Sizes.{networkLongest, network-size}
 
--- The plan file at an offset: 10 bytes, and 8 for each step.
+-- The plan file at an offset: at most 10 bytes, and 8 for each step: 2,050 bytes.
+
+abbrev pub planLongest : ℕ
+planLongest = longest PlanHead + longest Steps * 255 + longest PlanEnd
 
 pub record PlanHeadRead (s : List ℕ) (head at : ℕ) (stage : Stage) (p : Plan) : Type 0 where
   pub steps-fit : word s (head + 4) ≤ 255
@@ -30,23 +33,29 @@ pub record PlanHeadRead (s : List ℕ) (head at : ℕ) (stage : Stage) (p : Plan
 
 pub record StepsRead (s : List ℕ) (links head at : ℕ) (stage : Stage) (p : Plan) : Type 0 where
   pub steps-fit : word s (head + 4) ≤ 255
-  pub ends : at ≡ head + 6 + 8 * word s (head + 4)
+  pub at-most : at ≤ head + longest PlanHead + longest Steps * word s (head + 4)
   pub stage-is : stage ≡ Steps
   pub steps-are : p .steps ≡ word s (head + 4)
   pub run : records s 0 links (withStep s) (word s (head + 4)) (head + 6) Steps emptyPlan ≡ reached at stage p
 
 pub record PlanSize (s : List ℕ) (links head at : ℕ) (stage : Stage) (p : Plan) : Type 0 where
-  pub steps : StepsRead s links head (head + 6 + 8 * word s (head + 4)) Steps p
+  pub steps-end : ℕ
+  pub steps : StepsRead s links head steps-end Steps p
   pub stage-is : stage ≡ Over
-  pub ends : at ≡ head + 10 + 8 * p .steps
-  pub at-most : at ≤ head + 2050
+  pub within : at ≤ head + longest PlanHead + longest Steps * p .steps + longest PlanEnd
+  pub at-most : at ≤ head + planLongest
   pub inside : at ≤ length s
 
 module _ (s : List ℕ) (links head at : ℕ) (stage : Stage) (p : Plan) where
   pub plan-head-read : planHeadRun s links head ≡ reached at stage p → PlanHeadRead s head at stage p
   plan-head-read h =
       let one = one-record s 0 links asIs head PlanHead emptyPlan at stage p h in
-      record { steps-fit = plan-head-kept (one .whole); ends = one .ends; stage-is = one .last-is; value-is = one .value-is }
+      record {
+        steps-fit = plan-head-kept (one .whole);
+        ends = omega (arith, one .ends, one .whole .framed .enough, one .whole .framed .most);
+        stage-is = one .last-is;
+        value-is = one .value-is;
+      }
 
 module _ (s : List ℕ) (links head at : ℕ) (stage : Stage) (p : Plan) where
   pub steps-read : withSteps s links head ≡ reached at stage p → StepsRead s links head at stage p
@@ -59,7 +68,7 @@ module _ (s : List ℕ) (links head at : ℕ) (stage : Stage) (p : Plan) where
       in
       let ends = run-ends s 0 links (withStep s) (word s (head + 4)) (head + 6) Steps emptyPlan at stage p run refl in
       let count = run-count s 0 links (withStep s) (word s (head + 4)) (head + 6) Steps emptyPlan at stage p run (λ p. p .steps) (λ at p. refl) in
-      record { steps-fit = before .steps-fit; ends = omega arith; stage-is = ends .1; steps-are = omega arith; run = run }
+      record { steps-fit = before .steps-fit; at-most = ends .0; stage-is = ends .1; steps-are = omega arith; run = run }
 
 module _ (s : List ℕ) (links head at : ℕ) (stage : Stage) (p : Plan) where
   pub plan-size : planFile s links head ≡ reached at stage p → PlanSize s links head at stage p
@@ -69,12 +78,14 @@ module _ (s : List ℕ) (links head at : ℕ) (stage : Stage) (p : Plan) where
       let run : records s 0 links asIs 1 (b .at) PlanEnd (b .value) ≡ reached at stage p = rw (before .stage-is) at (b .then) in
       let one = one-record s 0 links asIs (b .at) PlanEnd (b .value) at stage p run in
       let plan : b .value ≡ p = sym (one .value-is) in
-      let all : StepsRead s links head (head + 6 + 8 * word s (head + 4)) Steps p = rw (before .ends, before .stage-is, plan) at before in
+      let all : StepsRead s links head (b .at) Steps p = rw (before .stage-is, plan) at before in
+      let last : at ≤ b .at + longest PlanEnd = omega (arith, one .ends, one .whole .framed .most) in
       record {
+        steps-end = b .at;
         steps = all;
         stage-is = one .last-is;
-        ends = omega (arith, before .ends, one .ends, all .steps-are);
-        at-most = omega (arith, before .ends, one .ends, before .steps-fit);
+        within = omega (arith, last, all .at-most, all .steps-are);
+        at-most = omega (arith, last, all .at-most, all .steps-fit);
         inside = omega (arith, one .ends, one .whole .framed .fits);
       }
 
@@ -85,14 +96,14 @@ module _ (s : List ℕ) (links head at : ℕ) (stage : Stage) (p : Plan) where
       let size = plan-size (c .0) in
       (c .0, omega (arith, c .1, size .inside))
 
--- The judge's input: both files, and nothing behind them.
+-- The judge's input: both files, and nothing behind them: at most 3,854 bytes.
 pub record BothSize (s : List ℕ) (at : ℕ) (stage : Stage) (n : Network) (p : Plan) : Type 0 where
   pub middle : ℕ
   pub due : Stage
   pub network : networkFile s ≡ reached middle due n
   pub plan : planFile s (n .links) middle ≡ reached at stage p
   pub ends : length s ≡ at
-  pub at-most : length s ≤ 3854
+  pub at-most : length s ≤ networkLongest + planLongest
 
 pub both-size :
     (s : List ℕ) (at : ℕ) (stage : Stage) (n : Network) (p : Plan) → bothInput s ≡ reached at stage (n, p) → BothSize s at stage n p

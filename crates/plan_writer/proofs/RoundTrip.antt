@@ -231,7 +231,8 @@ module _
         let first =
         records-suc s 0 links asIs 0 at PlanHead emptyPlan 5 6 Steps (head-due 0 links (p .steps) few head) ∙
         records-none s 0 links asIs (at + 6) Steps emptyPlan in
-        let middle : records s 0 links (withStep s) (p .steps) (at + 6) Steps emptyPlan ≡ reached (at + 6 + 8 * p .steps) Steps (firstSteps p (p .steps)) =
+        let middle : records s 0 links (withStep s) (p .steps) (at + 6) Steps emptyPlan ≡ reached (at + 6 + 8 * p .steps) Steps
+        (firstSteps p (p .steps)) =
         rw (add-zero (at + 6), first-none p) at (steps-read (p .steps) 0 (zero-add (p .steps)) steps) in
         let last =
         records-suc s 0 links asIs 0 (at + 6 + 8 * p .steps) PlanEnd (firstSteps p (p .steps)) 4 4 Over (end-due 0 links end) ∙

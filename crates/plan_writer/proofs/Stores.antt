@@ -95,7 +95,8 @@ pub plan-stored :
 unfolding bufferAfter planBytes planLength
 plan-stored p l l′ l″ l‴ at le e e′ e″ h =
     let two : l″ ≡ sets l 0 (planHeadBytes (p .steps) ++ stepsBytes p (p .steps)) =
-    stored-behind l l′ l″ 0 6 (planHeadBytes (p .steps)) (stepsBytes p (p .steps)) e e′ (sym (zero-add (length (planHeadBytes (p .steps))) ∙ head-length (p .steps)))
+    stored-behind l l′ l″ 0 6 (planHeadBytes (p .steps)) (stepsBytes p (p .steps)) e e′
+    (sym (zero-add (length (planHeadBytes (p .steps))) ∙ head-length (p .steps)))
     in
     let long : length (planHeadBytes (p .steps) ++ stepsBytes p (p .steps)) ≡ 6 + 8 * p .steps =
     simp (length-append, head-length, steps-length) in

@@ -1,4 +1,4 @@
--- What `recordAt` and `dueAt` promise of the record they find or refuse: where no rule of a list is broken, each of its tests is false, and the stage decides the kind.
+-- What `recordAt` and `dueAt` promise of the record they find or refuse: where no rule of a list is broken, each of its tests is false, and the stage decides which kinds may come and how long they are.
 -- Assumes nothing.
 use mathlib.Core.Path.{_≡_, refl, sym, ap, subst, _∙_}
 use mathlib.Core.Bool.{Bool, true, false}
@@ -61,27 +61,17 @@ pub either-false : (a b : Bool) → either a b ≡ false → (a ≡ false) × (b
 either-false true b h = let z : _≡_ {A = ℕ} 0 1 = cc in absurd (omega arith)
 either-false false b h = (refl, h)
 
--- One kind may come at each stage: the kind, its length, and the stage that it leads to.
+-- What may come at each stage: its kinds, and the stage that all of them lead to. A second kind at a stage is a second way in `KindAt`.
 
-abbrev pub kindAt : Stage → ℕ
-kindAt Head = 1
-kindAt Elements = 2
-kindAt Links = 3
-kindAt End = 4
-kindAt PlanHead = 5
-kindAt Steps = 6
-kindAt PlanEnd = 4
-kindAt Over = 0
-
-abbrev pub longAt : Stage → ℕ
-longAt Head = 8
-longAt Elements = 10
-longAt Links = 12
-longAt End = 4
-longAt PlanHead = 6
-longAt Steps = 8
-longAt PlanEnd = 4
-longAt Over = 0
+abbrev pub KindAt : Stage → ℕ → Type 0
+KindAt Head k = k ≡ 1
+KindAt Elements k = k ≡ 2
+KindAt Links k = k ≡ 3
+KindAt End k = k ≡ 4
+KindAt PlanHead k = k ≡ 5
+KindAt Steps k = k ≡ 6
+KindAt PlanEnd k = k ≡ 4
+KindAt Over k = ⊥
 
 abbrev pub nextAt : Stage → Stage
 nextAt Head = Elements
@@ -93,53 +83,70 @@ nextAt Steps = Steps
 nextAt PlanEnd = Over
 nextAt Over = Over
 
-leads-go : (k n : ℕ) (st next : Stage) → leads (eqb k n) st ≡ Go next → (k ≡ n) × (next ≡ st)
-leads-go k n st next h = go (eqb k n) refl
-  where
-    go : (t : Bool) → eqb k n ≡ t → (k ≡ n) × (next ≡ st)
-    go true e = let q : leads true st ≡ Go next = rw e at h in (eqb-true k n e, cc)
-    go false e = let q : leads false st ≡ Go next = rw e at h in let z : _≡_ {A = ℕ} 0 1 = cc in absurd (omega arith)
+-- the least and the largest length of the kinds at a stage, and the largest of all kinds
 
-pub goes-one-way : (st : Stage) (k : ℕ) (next : Stage) → nextStage st k ≡ Go next → (k ≡ kindAt st) × (next ≡ nextAt st)
+abbrev pub shortest : Stage → ℕ
+shortest Head = 8
+shortest Elements = 10
+shortest Links = 12
+shortest End = 4
+shortest PlanHead = 6
+shortest Steps = 8
+shortest PlanEnd = 4
+shortest Over = 0
+
+abbrev pub longest : Stage → ℕ
+longest Head = 8
+longest Elements = 10
+longest Links = 12
+longest End = 4
+longest PlanHead = 6
+longest Steps = 8
+longest PlanEnd = 4
+longest Over = 0
+
+abbrev pub longestRecord : ℕ
+longestRecord = 12
+
+leads-go : (t : Bool) (st next : Stage) → leads t st ≡ Go next → (t ≡ true) × (next ≡ st)
+leads-go true st next h = (refl, cc)
+leads-go false st next h = let z : _≡_ {A = ℕ} 0 1 = cc in absurd (omega arith)
+
+leads-one : (k n : ℕ) (st next : Stage) → leads (eqb k n) st ≡ Go next → (k ≡ n) × (next ≡ st)
+leads-one k n st next h = let l = leads-go (eqb k n) st next h in (eqb-true k n (l .0), l .1)
+
+pub goes-one-way : (st : Stage) (k : ℕ) (next : Stage) → nextStage st k ≡ Go next → KindAt st k × (next ≡ nextAt st)
 unfolding nextStage
-goes-one-way Head k next h = leads-go k 1 Elements next h
-goes-one-way Elements k next h = leads-go k 2 Elements next h
-goes-one-way Links k next h = leads-go k 3 Links next h
-goes-one-way End k next h = leads-go k 4 PlanHead next h
-goes-one-way PlanHead k next h = leads-go k 5 Steps next h
-goes-one-way Steps k next h = leads-go k 6 Steps next h
-goes-one-way PlanEnd k next h = leads-go k 4 Over next h
+goes-one-way Head k next h = leads-one k 1 Elements next h
+goes-one-way Elements k next h = leads-one k 2 Elements next h
+goes-one-way Links k next h = leads-one k 3 Links next h
+goes-one-way End k next h = leads-one k 4 PlanHead next h
+goes-one-way PlanHead k next h = leads-one k 5 Steps next h
+goes-one-way Steps k next h = leads-one k 6 Steps next h
+goes-one-way PlanEnd k next h = leads-one k 4 Over next h
 goes-one-way Over k next h = let z : _≡_ {A = ℕ} 0 1 = cc in absurd (omega arith)
 
-pub length-at : (st : Stage) → lengthOf (kindAt st) ≡ longAt st
+-- how long a record at a stage is: at least an end record, and within the stage's bounds
+abbrev pub LengthAt : Stage → ℕ → Type 0
+LengthAt st long = (4 ≤ long) × (shortest st ≤ long) × (long ≤ longest st)
+
+pub length-at : (st : Stage) (k : ℕ) → KindAt st k → LengthAt st (lengthOf k)
 unfolding lengthOf
-length-at Head = refl
-length-at Elements = refl
-length-at Links = refl
-length-at End = refl
-length-at PlanHead = refl
-length-at Steps = refl
-length-at PlanEnd = refl
-length-at Over = refl
+length-at Head k e = rw e (omega arith)
+length-at Elements k e = rw e (omega arith)
+length-at Links k e = rw e (omega arith)
+length-at End k e = rw e (omega arith)
+length-at PlanHead k e = rw e (omega arith)
+length-at Steps k e = rw e (omega arith)
+length-at PlanEnd k e = rw e (omega arith)
+length-at Over k e = absurd e
 
--- no kind leads on from the last stage, so a record found is at least an end record long
-pub least-long : (st : Stage) (k : ℕ) (next : Stage) → nextStage st k ≡ Go next → 4 ≤ longAt st
-unfolding nextStage
-least-long Head k next h = omega arith
-least-long Elements k next h = omega arith
-least-long Links k next h = omega arith
-least-long End k next h = omega arith
-least-long PlanHead k next h = omega arith
-least-long Steps k next h = omega arith
-least-long PlanEnd k next h = omega arith
-least-long Over k next h = let z : _≡_ {A = ℕ} 0 1 = cc in absurd (omega arith)
-
-pick-most : (t : Bool) (a b : ℕ) → a ≤ 12 → b ≤ 12 → pick t a b ≤ 12
+pick-most : (t : Bool) (a b : ℕ) → a ≤ longestRecord → b ≤ longestRecord → pick t a b ≤ longestRecord
 pick-most true a b ha hb = ha
 pick-most false a b ha hb = hb
 
--- no kind's records are longer than a link's
-pub length-most : (k : ℕ) → lengthOf k ≤ 12
+-- no kind's records are longer
+pub length-most : (k : ℕ) → lengthOf k ≤ longestRecord
 unfolding lengthOf
 length-most k =
     pick-most (eqb k 1) 8 _ (omega arith)
@@ -155,16 +162,15 @@ pub record Framed (s : List ℕ) (at : ℕ) (stage : Stage) (kind long : ℕ) (n
   pub goes : nextStage stage kind ≡ Go next
   pub fits : at + long ≤ length s
   pub least : 4 ≤ long
-  pub most : long ≤ 12
-  pub kind-at : kind ≡ kindAt stage
-  pub long-at : long ≡ longAt stage
+  pub enough : shortest stage ≤ long
+  pub most : long ≤ longest stage
   pub next-at : next ≡ nextAt stage
 
--- What rules 1 to 12 promise: the tests of rules 5 to 12 that speak of the stage's kind are false too.
+-- What rules 1 to 12 promise: the tests of rules 5 to 12 that speak of the record's kind are false too.
 pub record Whole (s : List ℕ) (elements links at : ℕ) (stage : Stage) (kind long : ℕ) (next : Stage) : Type 0 where
   pub framed : Framed s at stage kind long next
   pub kept : firstBroken (recordRules s elements links at stage) ≡ Kept
-  pub fields : AllKept (fieldRules s at (kindAt stage) elements links)
+  pub fields : AllKept (fieldRules s at kind elements links)
 
 found-kept :
     (s : List ℕ) (at : ℕ) (stage : Stage) (v : Verdict) (kind long : ℕ) (next : Stage) →
@@ -198,19 +204,18 @@ framed-of s at stage kind long next h hk hl hn =
     let goes : nextStage stage kind ≡ Go next = cc (not-refused (nextStage stage (kindField s at)) stage (h .1 .0)) in
     let one = goes-one-way stage kind next goes in
     let right : lengthField s at ≡ lengthOf (kindField s at) = eqb-true _ _ (not-false _ (h .1 .1 .0)) in
-    let long-at : long ≡ longAt stage = cc (length-at stage) in
-    let least : 4 ≤ longAt stage = least-long stage kind next goes in
+    let long-of : long ≡ lengthOf kind = cc in
+    let bounds : LengthAt stage long = rw long-of (length-at stage kind (one .0)) in
     let enough : lengthField s at ≤ length s - at = ltb-false (length s - at) (lengthField s at) (h .1 .1 .1 .0) in
     record {
       kind-is = sym hk;
       long-is = sym hl;
-      long-of = cc;
+      long-of = long-of;
       goes = goes;
-      fits = omega arith;
-      least = omega arith;
-      most = omega (arith, length-at stage, length-most (kindAt stage));
-      kind-at = one .0;
-      long-at = long-at;
+      fits = omega (arith, bounds .0);
+      least = bounds .0;
+      enough = bounds .1;
+      most = bounds .2;
       next-at = one .1;
     }
 
@@ -227,18 +232,18 @@ module _ (s : List ℕ) (at : ℕ) (stage : Stage) where
   frame-refused {r} h = found-refused s at stage (firstBroken (frameRules s at stage)) r h
 
 module _ (s : List ℕ) (elements links at : ℕ) (stage : Stage) where
-  pub due-kept : {kind long : ℕ} {next : Stage} → dueAt s elements links at stage ≡ Record kind long next → Whole s elements links at stage kind long next
+  pub due-kept : {kind long : ℕ} {next : Stage} → dueAt s elements links at stage ≡ Record kind long next → Whole s elements links at stage kind long
+      next
   unfolding dueAt recordRules
   due-kept {kind} {long} {next} h =
       let f = found-kept s at stage (firstBroken (recordRules s elements links at stage)) kind long next h in
       let both = first-append-kept (frameRules s at stage) (fieldRules s at (kindField s at) elements links) (f .0) in
       let frame = framed-of s at stage kind long next (all-kept (frameRules s at stage) (both .0)) (f .1) (f .2) (f .3) in
-      let kinds : kindField s at ≡ kindAt stage = f .1 ∙ frame .kind-at in
       record {
         framed = frame;
         kept = f .0;
         fields =
-            subst (λ (k : ℕ). AllKept (fieldRules s at k elements links)) kinds
+            subst (λ (k : ℕ). AllKept (fieldRules s at k elements links)) (f .1)
             (all-kept (fieldRules s at (kindField s at) elements links) (both .1));
       }
 
@@ -288,7 +293,15 @@ module _ (s : List ℕ) (elements links at : ℕ) (stage : Stage) where
       dueAt s elements links at stage ≡ Refused (record { rule = r; place = at })
   due-fields-broken kind long next r h e = due-fields kind long next h ∙ ap (foundBy s at stage) e
 
--- What rules 5 to 12 promise of a record at each stage.
+-- What rules 5 to 12 promise of a record: at each stage one of its kinds, and of each kind its own rules.
+
+module _ {s : List ℕ} {elements links at : ℕ} {stage : Stage} {kind long : ℕ} {next : Stage} where
+  pub kind-there : Whole s elements links at stage kind long next → KindAt stage kind
+  kind-there w = goes-one-way stage kind next (w .framed .goes) .0
+
+  -- a record of a kind that is known
+  pub as-kind : {k : ℕ} → kind ≡ k → Whole s elements links at stage kind long next → Whole s elements links at stage k long next
+  as-kind e w = rw e at w
 
 module _ {s : List ℕ} {elements links at kind long : ℕ} {next : Stage} where
   pub head-kept :
@@ -296,7 +309,8 @@ module _ {s : List ℕ} {elements links at kind long : ℕ} {next : Stage} where
       record { some : 1 ≤ word s (at + 4); elements-fit : word s (at + 4) ≤ 64; links-fit : word s (at + 6) ≤ 96 }
   unfolding fieldRules headRules
   head-kept w =
-      let t = either-false (eqb (word s (at + 4)) 0) (either (ltb 64 (word s (at + 4))) (ltb 96 (word s (at + 6)))) (w .fields .0) in
+      let fields = as-kind (kind-there w) w .fields in
+      let t = either-false (eqb (word s (at + 4)) 0) (either (ltb 64 (word s (at + 4))) (ltb 96 (word s (at + 6)))) (fields .0) in
       let u = either-false (ltb 64 (word s (at + 4))) (ltb 96 (word s (at + 6))) (t .1) in
       let ne : (word s (at + 4) ≡ 0) → ⊥ = eqb-false (word s (at + 4)) 0 (t .0) in
       record {
@@ -305,12 +319,29 @@ module _ {s : List ℕ} {elements links at kind long : ℕ} {next : Stage} where
         links-fit = ltb-false 96 (word s (at + 6)) (u .1);
       }
 
-  pub element-kept : Whole s elements links at Elements kind long next → word s (at + 8) ≤ 3
+  pub plan-head-kept : Whole s elements links at PlanHead kind long next → word s (at + 4) ≤ 255
+  unfolding fieldRules planHeadRules
+  plan-head-kept w = ltb-false 255 (word s (at + 4)) (as-kind (kind-there w) w .fields .0)
+
+  pub step-kept :
+      Whole s elements links at Steps kind long next →
+      record { link-in : word s (at + 4) < links; state-in : word s (at + 6) ≤ 1 }
+  unfolding fieldRules stepRules
+  step-kept w =
+      let fields = as-kind (kind-there w) w .fields in
+      record {
+        link-in = leb-false links (word s (at + 4)) (fields .0);
+        state-in = ltb-false 1 (word s (at + 6)) (fields .1 .0);
+      }
+
+-- at the stages of elements and links, of each kind by itself
+module _ {s : List ℕ} {elements links at : ℕ} {stage : Stage} {long : ℕ} {next : Stage} where
+  pub element-kept : Whole s elements links at stage 2 long next → word s (at + 8) ≤ 3
   unfolding fieldRules elementRules
   element-kept w = ltb-false 3 (word s (at + 8)) (w .fields .0)
 
   pub link-kept :
-      Whole s elements links at Links kind long next →
+      Whole s elements links at stage 3 long next →
       record {
         from-in : word s (at + 4) < elements;
         to-in : word s (at + 6) < elements;
@@ -320,7 +351,8 @@ module _ {s : List ℕ} {elements links at kind long : ℕ} {next : Stage} where
       }
   unfolding fieldRules linkRules
   link-kept w =
-      let t = either-false (leb elements (word s (at + 4))) (either (leb elements (word s (at + 6))) (eqb (word s (at + 4)) (word s (at + 6)))) (w .fields .0) in
+      let t = either-false (leb elements (word s (at + 4))) (either (leb elements (word s (at + 6))) (eqb (word s (at + 4)) (word s (at + 6))))
+      (w .fields .0) in
       let u = either-false (leb elements (word s (at + 6))) (eqb (word s (at + 4)) (word s (at + 6))) (t .1) in
       record {
         from-in = leb-false elements (word s (at + 4)) (t .0);
@@ -328,18 +360,4 @@ module _ {s : List ℕ} {elements links at kind long : ℕ} {next : Stage} where
         differ = eqb-false (word s (at + 4)) (word s (at + 6)) (u .1);
         form-in = ltb-false 2 (word s (at + 8)) (w .fields .1 .0);
         suited = not-false (suits (word s (at + 8)) (word s (at + 10))) (w .fields .1 .1 .0);
-      }
-
-  pub plan-head-kept : Whole s elements links at PlanHead kind long next → word s (at + 4) ≤ 255
-  unfolding fieldRules planHeadRules
-  plan-head-kept w = ltb-false 255 (word s (at + 4)) (w .fields .0)
-
-  pub step-kept :
-      Whole s elements links at Steps kind long next →
-      record { link-in : word s (at + 4) < links; state-in : word s (at + 6) ≤ 1 }
-  unfolding fieldRules stepRules
-  step-kept w =
-      record {
-        link-in = leb-false links (word s (at + 4)) (w .fields .0);
-        state-in = ltb-false 1 (word s (at + 6)) (w .fields .1 .0);
       }

@@ -26,7 +26,8 @@ abbrev pub refusal : Rule → ℕ → Found
 refusal r p = Refused (record { rule = r; place = p })
 
 -- the values that the reader has at hand: the bytes left, the kind, what the table says, the length, the kind's length
-module _ (s : List ℕ) (at : ℕ) (stage : Stage) (left kind : ℕ) (next : Next) (hl : left ≡ length s - at) (hk : kind ≡ word s (at + 2)) (hn : next ≡ nextStage stage kind) where
+module _ (s : List ℕ) (at : ℕ) (stage : Stage) (left kind : ℕ) (next : Next) (hl : left ≡ length s - at) (hk : kind ≡ word s (at + 2))
+    (hn : next ≡ nextStage stage kind) where
   pub missing : left < 4 → refusal RecordMissing at ≡ recordAt s at stage
   unfolding recordAt frameRules
   missing h = simp (← hl, lt-ltb left 4 h)
@@ -81,5 +82,6 @@ pub due-found :
     firstBroken (fieldRules s at kind elements links) ≡ Kept →
     dueAt s elements links at stage ≡ Record kind long next
 due-found s elements links at kind long stage next hl hk fits least go hlen kept =
-    let found = whole s at stage (length s - at) kind (nextStage stage kind) refl (sym hk) refl next long long (omega arith) go (sym hl) (sym hlen) refl (omega arith) in
+    let found = whole s at stage (length s - at) kind (nextStage stage kind) refl (sym hk) refl next long long (omega arith) go (sym hl) (sym hlen)
+    refl (omega arith) in
     sym (due-decided s elements links at stage kind long next Kept (sym found) (sym kept))

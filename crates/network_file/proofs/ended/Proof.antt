@@ -14,13 +14,21 @@ enum-known-reached-2 : tie.Need-enum-known-reached-2
 enum-known-reached-2 c = search needs
 
 returns : tie.Need-returns
-returns c = rw (c .before .before .reached2 .given .1, lt-ltb (c .before .before .reached2 .given .0 .0) (length (c .before .before .before .before .args .s .now)) (omega arith))
+returns c = rw (
+  c .before .before .reached2 .given .1,
+  lt-ltb (c .before .before .reached2 .given .0 .0)
+      (length (c .before .before .before .before .args .s .now)) (omega arith),
+)
 
 returns-2 : tie.Need-returns-2
 returns-2 c = rw (c .before .reached .given .1)
 
 returns-3 : tie.Need-returns-3
-returns-3 c = rw (c .before .before .reached2 .given .1, le-ltb (c .before .before .reached2 .given .0 .0) (length (c .before .before .before .before .args .s .now)) (omega arith))
+returns-3 c = rw (
+  c .before .before .reached2 .given .1,
+  le-ltb (c .before .before .reached2 .given .0 .0)
+      (length (c .before .before .before .before .args .s .now)) (omega arith),
+)
 
 pub ended-spec : {M : Type 1} → statement M
 ended-spec =

@@ -28,7 +28,8 @@ returns c =
     let args = c .before .before .before .before .before .before .args in
     let network-file = c .before .before .before .before .network-file in
     let ended = c .before .before .before .ended in
-    network-accepted (args .s .now) (networkFile (args .s .now)) (network-file .result) (ended .result) (network-file .ensures) (ended .ensures) (c .before .enum-told .given .1)
+    network-accepted (args .s .now) (networkFile (args .s .now)) (network-file .result) (ended .result) (network-file .ensures) (ended .ensures)
+    (c .before .enum-told .given .1)
 
 returns-2 : tie.Need-returns-2
 unfolding networkInput
@@ -37,7 +38,8 @@ returns-2 c =
     let network-file = c .before .before .before .before .network-file in
     let ended = c .before .before .before .ended in
     let empty = c .empty in
-    network-none (args .s .now) (networkFile (args .s .now)) (network-file .result) (ended .result) (network-file .ensures) (ended .ensures) (empty .result) _ (empty .ensures) (c .before .enum-told2 .given .1)
+    network-none (args .s .now) (networkFile (args .s .now)) (network-file .result) (ended .result) (network-file .ensures) (ended .ensures)
+    (empty .result) _ (empty .ensures) (c .before .enum-told2 .given .1)
 
 pub read-network-spec : {M : Type 1} → statement M
 read-network-spec =

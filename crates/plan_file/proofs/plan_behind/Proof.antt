@@ -23,7 +23,8 @@ returns : tie.Need-returns
 returns c =
     let args = c .before .before .before .before .before .before .args in
     let read-plan = c .before .before .before .before .read-plan in
-    c .refused-both .ensures ∙ ap bothRead (behind-refused (args .s .now) (args .at) (args .net) (read-plan .result) (read-plan .ensures) _ (c .before .before .answer .given .1))
+    c .refused-both .ensures ∙ ap bothRead (behind-refused (args .s .now) (args .at) (args .net) (read-plan .result) (read-plan .ensures) _
+    (c .before .before .answer .given .1))
 
 returns-2 : tie.Need-returns-2
 returns-2 c =

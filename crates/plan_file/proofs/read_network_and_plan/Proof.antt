@@ -28,14 +28,16 @@ unfolding bothInput
 returns c =
     let args = c .before .before .before .before .before .before .args in
     let network-file = c .before .before .before .before .network-file in
-    c .refused-both .ensures ∙ ap bothRead (network-refused (networkFile (args .s .now)) (λ at stage n. planBehind (args .s .now) at n) (network-file .result) _ (network-file .ensures) (c .before .before .reached .given .1) .1)
+    c .refused-both .ensures ∙ ap bothRead (network-refused (networkFile (args .s .now)) (λ at stage n. planBehind (args .s .now) at n)
+    (network-file .result) _ (network-file .ensures) (c .before .before .reached .given .1) .1)
 
 returns-2 : tie.Need-returns-2
 unfolding bothInput
 returns-2 c =
     let args = c .before .before .before .before .before .before .before .args in
     let network-file = c .before .before .before .before .before .network-file in
-    c .plan-behind .ensures ∙ ap bothRead (network-reached (networkFile (args .s .now)) (λ at stage n. planBehind (args .s .now) at n) (network-file .result) _ _ (network-file .ensures) (c .before .before .before .reached2 .given .1) .1)
+    c .plan-behind .ensures ∙ ap bothRead (network-reached (networkFile (args .s .now)) (λ at stage n. planBehind (args .s .now) at n)
+    (network-file .result) _ _ (network-file .ensures) (c .before .before .before .reached2 .given .1) .1)
 
 pub read-network-and-plan-spec : {M : Type 1} → statement M
 read-network-and-plan-spec =

@@ -28,7 +28,8 @@ returns c =
     let args = c .before .before .before .before .before .before .args in
     let plan-file = c .before .before .before .before .plan-file in
     let ended = c .before .before .before .ended in
-    plan-accepted (args .s .now) (planFile (args .s .now) (args .links) (args .at)) (plan-file .result) (ended .result) (plan-file .ensures) (ended .ensures) (c .before .enum-told .given .1)
+    plan-accepted (args .s .now) (planFile (args .s .now) (args .links) (args .at)) (plan-file .result) (ended .result) (plan-file .ensures)
+    (ended .ensures) (c .before .enum-told .given .1)
 
 returns-2 : tie.Need-returns-2
 unfolding planInput
@@ -37,7 +38,8 @@ returns-2 c =
     let plan-file = c .before .before .before .before .plan-file in
     let ended = c .before .before .before .ended in
     let empty = c .empty in
-    plan-none (args .s .now) (planFile (args .s .now) (args .links) (args .at)) (plan-file .result) (ended .result) (plan-file .ensures) (ended .ensures) (empty .result) _ (empty .ensures) (c .before .enum-told2 .given .1)
+    plan-none (args .s .now) (planFile (args .s .now) (args .links) (args .at)) (plan-file .result) (ended .result) (plan-file .ensures)
+    (ended .ensures) (empty .result) _ (empty .ensures) (c .before .enum-told2 .given .1)
 
 pub read-plan-spec : {M : Type 1} → statement M
 read-plan-spec =

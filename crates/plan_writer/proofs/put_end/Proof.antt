@@ -25,7 +25,8 @@ returns : tie.Need-returns
 unfolding endBytes
 returns c =
     let a = c .before .before .before .before .before .before .before .before .before .args in
-    stored-behind (a .buffer .now) _ _ (a .at) (a .at + 2) (number 4) (number 4) (c .before .before .before .before .before .before .put-word .ensures) (c .before .before .put-word2 .ensures) refl
+    stored-behind (a .buffer .now) _ _ (a .at) (a .at + 2) (number 4) (number 4)
+    (c .before .before .before .before .before .before .put-word .ensures) (c .before .before .put-word2 .ensures) refl
 
 pub put-end-spec : {M : Type 1} → statement M
 put-end-spec =

@@ -24,7 +24,9 @@ returns : tie.Need-returns
 unfolding planHeadBytes
 returns c =
     let a = c .before .before .before .before .before .before .before .before .before .before .before .before .before .args in
-    let two = stored-behind (a .buffer .now) _ _ 0 2 (number 6) (number 5) (c .before .before .before .before .before .before .before .before .before .before .put-word .ensures) (c .before .before .before .before .before .before .put-word2 .ensures) refl in
+    let two = stored-behind (a .buffer .now) _ _ 0 2 (number 6) (number 5)
+    (c .before .before .before .before .before .before .before .before .before .before .put-word .ensures)
+    (c .before .before .before .before .before .before .put-word2 .ensures) refl in
     stored-behind (a .buffer .now) _ _ 0 4 (number 6 ++ number 5) (number (a .steps)) two (c .before .before .put-word3 .ensures) refl
 
 pub put-head-spec : {M : Type 1} → statement M

@@ -41,9 +41,13 @@ returns : tie.Need-returns
 unfolding stepBytes
 returns c =
     let a = c .before .before .before .before .before .before .before .before .before .before .before .before .before .before .before .before .before .args in
-    let two = stored-behind (a .buffer .now) _ _ (a .at) (a .at + 2) (number 8) (number 6) (c .before .before .before .before .before .before .before .before .before .before .before .before .before .before .put-word .ensures) (c .before .before .before .before .before .before .before .before .before .before .put-word2 .ensures) refl in
-    let three = stored-behind (a .buffer .now) _ _ (a .at) (a .at + 4) (number 8 ++ number 6) (number (a .link)) two (c .before .before .before .before .before .before .put-word3 .ensures) refl in
-    stored-behind (a .buffer .now) _ _ (a .at) (a .at + 6) (number 8 ++ number 6 ++ number (a .link)) (number (stateNumber (a .close))) three (c .before .before .put-word4 .ensures) refl
+    let two = stored-behind (a .buffer .now) _ _ (a .at) (a .at + 2) (number 8) (number 6)
+    (c .before .before .before .before .before .before .before .before .before .before .before .before .before .before .put-word .ensures)
+    (c .before .before .before .before .before .before .before .before .before .before .put-word2 .ensures) refl in
+    let three = stored-behind (a .buffer .now) _ _ (a .at) (a .at + 4) (number 8 ++ number 6) (number (a .link)) two
+    (c .before .before .before .before .before .before .put-word3 .ensures) refl in
+    stored-behind (a .buffer .now) _ _ (a .at) (a .at + 6) (number 8 ++ number 6 ++ number (a .link)) (number (stateNumber (a .close))) three
+    (c .before .before .put-word4 .ensures) refl
 
 pub put-step-spec : {M : Type 1} → statement M
 put-step-spec =

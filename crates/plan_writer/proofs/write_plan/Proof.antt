@@ -13,7 +13,8 @@ plan-length-requires : tie.Need-plan-length-requires
 plan-length-requires c κs = tt
 
 returns : tie.Need-returns
-returns c = too-short (c .before .before .before .args .plan) (c .before .before .before .args .buffer .now) _ (c .before .plan-length .ensures) (omega arith)
+returns c = too-short (c .before .before .before .args .plan) (c .before .before .before .args .buffer .now) _ (c .before .plan-length .ensures)
+    (omega arith)
 
 put-head-requires : tie.Need-put-head-requires
 unfolding planLength
@@ -40,7 +41,9 @@ returns-2 c =
     let e = c .before .before .before .before .before .before .before .before .before .before .before .before .before .plan-length .ensures in
     let le = c .before .before .before .before .before .before .before .before .before .before .before .before .if1 .left in (
       long-enough (a .plan) (a .buffer .now) _ e le,
-      plan-stored (a .plan) (a .buffer .now) _ _ _ _ (omega arith) (c .before .before .before .before .before .before .before .before .before .before .put-head .ensures) (c .before .before .before .before .before .before .put-steps .ensures) (c .before .before .put-end .ensures)
+      plan-stored (a .plan) (a .buffer .now) _ _ _ _ (omega arith)
+          (c .before .before .before .before .before .before .before .before .before .before .put-head .ensures)
+          (c .before .before .before .before .before .before .put-steps .ensures) (c .before .before .put-end .ensures)
           (ap (λ (k : ℕ). k - 4) e),
     )
 

@@ -63,7 +63,8 @@ returns-4 c = simp (
   ← c .before .before .before .before .before .before .word-at .ensures,
   ← c .before .before .before .before .before .word-at2 .ensures,
   lt-leb _ _ (c .before .before .before .before .if1 .left),
-  lt-leb (c .before .before .before .before .before .before .before .before .args .elements) (c .before .before .before .before .before .word-at2 .result) (omega arith),
+  lt-leb (c .before .before .before .before .before .before .before .before .args .elements)
+      (c .before .before .before .before .before .word-at2 .result) (omega arith),
   ne-eqb _ _ (c .before .before .if3 .left),
   ← c .before .word-at3 .ensures,
   lt-ltb _ _ (c .if4 .taken),
@@ -84,7 +85,8 @@ returns-5 c = simp (
   ← c .before .before .before .before .before .before .before .before .before .word-at .ensures,
   ← c .before .before .before .before .before .before .before .before .word-at2 .ensures,
   lt-leb _ _ (c .before .before .before .before .before .before .before .if1 .left),
-  lt-leb (c .before .before .before .before .before .before .before .before .before .before .before .args .elements) (c .before .before .before .before .before .before .before .before .word-at2 .result) (omega arith),
+  lt-leb (c .before .before .before .before .before .before .before .before .before .before .before .args .elements)
+      (c .before .before .before .before .before .before .before .before .word-at2 .result) (omega arith),
   ne-eqb _ _ (c .before .before .before .before .before .if3 .left),
   ← c .before .before .before .before .word-at3 .ensures,
   le-ltb _ _ (c .before .before .before .if4 .left),
@@ -99,7 +101,8 @@ returns-6 c = simp (
   ← c .before .before .before .before .before .before .before .before .before .word-at .ensures,
   ← c .before .before .before .before .before .before .before .before .word-at2 .ensures,
   lt-leb _ _ (c .before .before .before .before .before .before .before .if1 .left),
-  lt-leb (c .before .before .before .before .before .before .before .before .before .before .before .args .elements) (c .before .before .before .before .before .before .before .before .word-at2 .result) (omega arith),
+  lt-leb (c .before .before .before .before .before .before .before .before .before .before .before .args .elements)
+      (c .before .before .before .before .before .before .before .before .word-at2 .result) (omega arith),
   ne-eqb _ _ (c .before .before .before .before .before .if3 .left),
   ← c .before .before .before .before .word-at3 .ensures,
   le-ltb _ _ (c .before .before .before .if4 .left),

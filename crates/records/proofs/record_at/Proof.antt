@@ -45,7 +45,8 @@ returns-2 c =
     let bytes-left = c .before .before .before .before .before .before .bytes-left in
     let word-at = c .before .before .before .before .word-at in
     let next-stage = c .before .before .before .next-stage in
-    c .refused2 .ensures ∙ out-of-place (args .s .now) (args .at) (args .stage) (bytes-left .result) (word-at .result) (next-stage .result) (bytes-left .ensures) (word-at .ensures) (next-stage .ensures) (omega arith) (c .before .enum-told .given .1)
+    c .refused2 .ensures ∙ out-of-place (args .s .now) (args .at) (args .stage) (bytes-left .result) (word-at .result) (next-stage .result)
+    (bytes-left .ensures) (word-at .ensures) (next-stage .ensures) (omega arith) (c .before .enum-told .given .1)
 
 word-at-requires-2 : tie.Need-word-at-requires-2
 word-at-requires-2 c κs = omega arith
@@ -65,7 +66,9 @@ returns-3 c =
     let word-at2 = c .before .before .before .word-at2 in
     let length-of = c .before .before .length-of in
     let next = c .before .before .before .before .before .next in
-    c .refused3 .ensures ∙ wrong-length (args .s .now) (args .at) (args .stage) (bytes-left .result) (word-at .result) (next-stage .result) (bytes-left .ensures) (word-at .ensures) (next-stage .ensures) _ (word-at2 .result) (length-of .result) (omega arith) (next .given .1) (word-at2 .ensures) (length-of .ensures) (c .before .if2 .taken)
+    c .refused3 .ensures ∙ wrong-length (args .s .now) (args .at) (args .stage) (bytes-left .result) (word-at .result) (next-stage .result)
+    (bytes-left .ensures) (word-at .ensures) (next-stage .ensures) _ (word-at2 .result) (length-of .result) (omega arith) (next .given .1)
+    (word-at2 .ensures) (length-of .ensures) (c .before .if2 .taken)
 
 cast-if3 : tie.Need-cast-if3
 cast-if3 c = omega arith
@@ -82,7 +85,9 @@ returns-4 c =
     let word-at2 = c .before .before .before .before .word-at2 in
     let length-of = c .before .before .before .length-of in
     let next = c .before .before .before .before .before .before .next in
-    c .refused4 .ensures ∙ cut-off (args .s .now) (args .at) (args .stage) (bytes-left .result) (word-at .result) (next-stage .result) (bytes-left .ensures) (word-at .ensures) (next-stage .ensures) _ (word-at2 .result) (length-of .result) (omega arith) (next .given .1) (word-at2 .ensures) (length-of .ensures) (c .before .before .if2 .left) (c .before .if3 .taken)
+    c .refused4 .ensures ∙ cut-off (args .s .now) (args .at) (args .stage) (bytes-left .result) (word-at .result) (next-stage .result)
+    (bytes-left .ensures) (word-at .ensures) (next-stage .ensures) _ (word-at2 .result) (length-of .result) (omega arith) (next .given .1)
+    (word-at2 .ensures) (length-of .ensures) (c .before .before .if2 .left) (c .before .if3 .taken)
 
 returns-5 : tie.Need-returns-5
 returns-5 c =
@@ -93,7 +98,9 @@ returns-5 c =
     let word-at2 = c .before .before .before .word-at2 in
     let length-of = c .before .before .length-of in
     let next = c .before .before .before .before .before .next in
-    whole (args .s .now) (args .at) (args .stage) (bytes-left .result) (word-at .result) (next-stage .result) (bytes-left .ensures) (word-at .ensures) (next-stage .ensures) _ (word-at2 .result) (length-of .result) (omega arith) (next .given .1) (word-at2 .ensures) (length-of .ensures) (c .before .if2 .left) (c .if3 .left)
+    whole (args .s .now) (args .at) (args .stage) (bytes-left .result) (word-at .result) (next-stage .result) (bytes-left .ensures) (word-at .ensures)
+    (next-stage .ensures) _ (word-at2 .result) (length-of .result) (omega arith) (next .given .1) (word-at2 .ensures) (length-of .ensures)
+    (c .before .if2 .left) (c .if3 .left)
 
 pub record-at-spec : {M : Type 1} → statement M
 record-at-spec =

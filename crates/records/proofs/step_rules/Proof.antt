@@ -30,11 +30,23 @@ returns c = simp (← c .before .before .word-at .ensures, ← c .before .word-a
 
 returns-2 : tie.Need-returns-2
 unfolding stepRules
-returns-2 c = simp (← c .before .before .before .word-at .ensures, ← c .before .before .word-at2 .ensures, lt-leb _ _ (c .before .if1 .left), le-leb _ _ (c .if2 .taken))
+returns-2 c = simp (
+  ← c .before .before .before .word-at .ensures,
+  ← c .before .before .word-at2 .ensures,
+  lt-leb _ _ (c .before .if1 .left),
+  le-leb _
+      _ (c .if2 .taken),
+)
 
 returns-3 : tie.Need-returns-3
 unfolding stepRules
-returns-3 c = simp (← c .before .before .before .word-at .ensures, ← c .before .before .word-at2 .ensures, lt-leb _ _ (c .before .if1 .left), lt-leb _ _ (c .if2 .left))
+returns-3 c = simp (
+  ← c .before .before .before .word-at .ensures,
+  ← c .before .before .word-at2 .ensures,
+  lt-leb _ _ (c .before .if1 .left),
+  lt-leb _
+      _ (c .if2 .left),
+)
 
 pub step-rules-spec : {M : Type 1} → statement M
 step-rules-spec =

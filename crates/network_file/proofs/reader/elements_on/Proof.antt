@@ -34,13 +34,15 @@ links-on-requires c κs =
     let read-elements = c .before .before .before .before .before .read-elements in
     let word-at = c .before .before .before .before .before .before .word-at in
     let pre = c .before .before .before .before .before .before .before .before .pre in
-    let l = elements-leave (args .s .now) (args .at) (args .stage) (read-elements .result) _ _ (rw (word-at .ensures) at (read-elements .ensures)) (c .before .before .before .reached .given .1) (pre .3) in (pre .0, omega (arith, l .0, pre .2), c .after-last .ensures ∙ l .1)
+    let l = elements-leave (args .s .now) (args .at) (args .stage) (read-elements .result) _ _ (rw (word-at .ensures) at (read-elements .ensures))
+    (c .before .before .before .reached .given .1) (pre .3) in (pre .0, omega (arith, l .0, pre .2), c .after-last .ensures ∙ l .1)
 
 returns : tie.Need-returns
 returns c =
     let args = c .before .before .before .before .before .args in
     let read-elements = c .before .before .read-elements in
-    elements-refused (args .s .now) (args .at) (args .stage) (read-elements .result) _ (rw (c .before .before .before .word-at .ensures) at (read-elements .ensures)) (c .enum-told .given .1)
+    elements-refused (args .s .now) (args .at) (args .stage) (read-elements .result) _
+    (rw (c .before .before .before .word-at .ensures) at (read-elements .ensures)) (c .enum-told .given .1)
 
 returns-2 : tie.Need-returns-2
 returns-2 c =
@@ -48,7 +50,9 @@ returns-2 c =
     let read-elements = c .before .before .before .before .before .before .read-elements in
     let word-at = c .before .before .before .before .before .before .before .word-at in
     let reached = c .before .before .before .before .reached in
-    c .links-on .ensures ∙ ap networkPart (rw (c .before .after-last .ensures) (elements-reached (args .s .now) (args .at) (args .stage) (read-elements .result) _ _ (rw (word-at .ensures) at (read-elements .ensures)) (reached .given .1)))
+    c .links-on .ensures ∙ ap networkPart (rw (c .before .after-last .ensures)
+    (elements-reached (args .s .now) (args .at) (args .stage) (read-elements .result) _ _ (rw (word-at .ensures) at (read-elements .ensures))
+    (reached .given .1)))
 
 pub elements-on-spec : {M : Type 1} → statement M
 elements-on-spec =

@@ -30,20 +30,26 @@ cast-after c = omega arith
 add-after : tie.Need-add-after
 add-after c =
     let args = c .before .before .before .before .before .args in
-    omega (arith, due-kept (args .s .now) 0 0 (args .at) (args .stage) (sym (c .before .before .before .due-at .ensures) ∙ c .before .found2 .given .1) .framed .fits)
+    omega (
+      arith,
+      due-kept (args .s .now) 0 0 (args .at) (args .stage)
+          (sym (c .before .before .before .due-at .ensures) ∙ c .before .found2 .given .1) .framed .fits,
+    )
 
 returns : tie.Need-returns
 unfolding endOn
 returns c =
     let args = c .before .before .before .before .before .before .args in
     let due-at = c .before .before .before .before .due-at in
-    c .refused-network .ensures ∙ ap networkPart (run-refused (args .s .now) 0 0 asIs _ 1 (args .at) (args .stage) (args .net) refl _ (omega arith) (due-at .ensures) _ (c .before .before .found .given .1))
+    c .refused-network .ensures ∙ ap networkPart (run-refused (args .s .now) 0 0 asIs _ 1 (args .at) (args .stage) (args .net) refl _ (omega arith)
+    (due-at .ensures) _ (c .before .before .found .given .1))
 
 returns-2 : tie.Need-returns-2
 unfolding endOn networkPart
 returns-2 c =
     let args = c .before .before .before .before .before .args in
-    ap networkPart (sym (records-none (args .s .now) 0 0 asIs _ _ (args .net)) ∙ run-turn (args .s .now) 0 0 asIs _ 1 (args .at) (args .stage) (args .net) refl _ (omega arith) (c .before .before .before .due-at .ensures) _ _ _ (c .before .found2 .given .1))
+    ap networkPart (sym (records-none (args .s .now) 0 0 asIs _ _ (args .net)) ∙ run-turn (args .s .now) 0 0 asIs _ 1 (args .at) (args .stage)
+    (args .net) refl _ (omega arith) (c .before .before .before .due-at .ensures) _ _ _ (c .before .found2 .given .1))
 
 pub end-on-spec : {M : Type 1} → statement M
 end-on-spec =

@@ -35,7 +35,8 @@ returns : tie.Need-returns
 returns c =
     let args = c .before .before .before .before .before .args in
     let read-links = c .before .before .read-links in
-    links-refused (args .s .now) (args .at) (args .stage) (args .net) (read-links .result) _ (rw (c .before .before .before .word-at .ensures) at (read-links .ensures)) (c .enum-told .given .1)
+    links-refused (args .s .now) (args .at) (args .stage) (args .net) (read-links .result) _
+    (rw (c .before .before .before .word-at .ensures) at (read-links .ensures)) (c .enum-told .given .1)
 
 returns-2 : tie.Need-returns-2
 returns-2 c =
@@ -43,7 +44,9 @@ returns-2 c =
     let read-links = c .before .before .before .before .before .before .read-links in
     let word-at = c .before .before .before .before .before .before .before .word-at in
     let reached = c .before .before .before .before .reached in
-    c .end-on .ensures ∙ ap networkPart (rw (c .before .after-last .ensures) (links-reached (args .s .now) (args .at) (args .stage) (args .net) (read-links .result) _ _ (rw (word-at .ensures) at (read-links .ensures)) (reached .given .1)))
+    c .end-on .ensures ∙ ap networkPart (rw (c .before .after-last .ensures)
+    (links-reached (args .s .now) (args .at) (args .stage) (args .net) (read-links .result) _ _ (rw (word-at .ensures) at (read-links .ensures))
+    (reached .given .1)))
 
 pub links-on-spec : {M : Type 1} → statement M
 links-on-spec =

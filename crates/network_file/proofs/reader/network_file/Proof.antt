@@ -31,21 +31,24 @@ cast-elements-on c = omega arith
 elements-on-requires : tie.Need-elements-on-requires
 elements-on-requires c κs =
     let args = c .before .before .before .before .before .args in
-    let w = due-kept (args .s .now) 0 0 0 Head (sym (c .before .before .before .due-at .ensures) ∙ c .before .found2 .given .1) in let h = head-kept w in (omega (arith, w .framed .fits, w .framed .long-at), h .elements-fit, h .links-fit, w .framed .next-at)
+    let w = due-kept (args .s .now) 0 0 0 Head (sym (c .before .before .before .due-at .ensures) ∙ c .before .found2 .given .1) in let h = head-kept
+    w in (omega (arith, w .framed .fits, w .framed .enough), h .elements-fit, h .links-fit, w .framed .next-at)
 
 returns : tie.Need-returns
 unfolding networkFile
 returns c =
     let args = c .before .before .before .before .before .before .args in
     let due-at = c .before .before .before .before .due-at in
-    c .refused-network .ensures ∙ ap networkPart (head-refused (args .s .now) 0 0 Head emptyNetwork (elementsOn (args .s .now)) _ (due-at .ensures) _ (c .before .before .found .given .1))
+    c .refused-network .ensures ∙ ap networkPart (head-refused (args .s .now) 0 0 Head emptyNetwork (elementsOn (args .s .now)) _ (due-at .ensures) _
+    (c .before .before .found .given .1))
 
 returns-2 : tie.Need-returns-2
 unfolding networkFile
 returns-2 c =
     let args = c .before .before .before .before .before .before .args in
     let due-at = c .before .before .before .before .due-at in
-    c .elements-on .ensures ∙ ap networkPart (rw zero-add at (head-found (args .s .now) 0 0 Head emptyNetwork (elementsOn (args .s .now)) _ (due-at .ensures) _ _ _ (c .before .before .found2 .given .1)))
+    c .elements-on .ensures ∙ ap networkPart (rw zero-add at (head-found (args .s .now) 0 0 Head emptyNetwork (elementsOn (args .s .now)) _
+    (due-at .ensures) _ _ _ (c .before .before .found2 .given .1)))
 
 pub network-file-spec : {M : Type 1} → statement M
 network-file-spec =

@@ -1,14 +1,13 @@
 -- `network_file::reader::read_links` reads so many links: at each turn what is left to read gives the whole outcome.
 -- Assumes nothing.
-use mathlib.Core.Path.{_≡_, refl, ap, _∙_}
-use Prim.Native.Nat.{_+_, _-_, _≤_}
+use mathlib.Core.Path.{_≡_, refl, ap, sym, _∙_}
+use Prim.Native.Nat.{_+_, _-_, _<_, _≤_}
 use native.Mathlib.Omega.{arith}
-use lib.ListN.{length}
 use Rattle.network.specs.declared.stage.Stage.the-variants.{Links}
 use Rattle.network_file.specs.Runs.{records}
 use Rattle.network_file.specs.NetworkFiles.{withLink}
 use Rattle.network_file.specs.Inputs.{networkPart}
-use Rattle.network_file.proofs.Outcomes.{run-done, run-refused, run-turn, turn-whole}
+use Rattle.network_file.proofs.Outcomes.{Turn, run-done, run-refused, run-turn, turn-whole}
 use Rattle.network_file.proofs.Taken.{link-taken}
 use borrow.Author.Needs.{needs}
 use Rattle.network_file.proofs.reader.read_links.Statement.{statement}
@@ -16,7 +15,8 @@ use Rattle.network_file.proofs.reader.read_links.Tie as tie
 
 abbrev Inv-loop : tie.InvT-loop
 Inv-loop s count start e net₀ at₀ stage₀ left₀ net at stage left =
-    (stage ≡ Links) × (net .links + left ≤ 96) × (records s (net₀ .elements) 0 (withLink s) left at stage net ≡ records s (net₀ .elements) 0 (withLink s) left₀ at₀ stage₀ net₀)
+    (stage ≡ Links) × (net .links + left ≤ 96) × (records s (net₀ .elements) 0 (withLink s) left at stage net ≡ records s (net₀ .elements) 0
+    (withLink s) left₀ at₀ stage₀ net₀)
 
 abbrev μ-loop : tie.MeasureT-loop
 μ-loop s count start e net₀ at₀ stage₀ left₀ net at stage left = left
@@ -42,27 +42,25 @@ returns c =
     let due-at = c .before .before .before .before .due-at in
     c .refused-network .ensures ∙
     ap networkPart
-    (run-refused (args .s .now) (args .elements .elements) 0 (withLink (args .s .now)) _ (loop .left) (loop .at) (loop .stage) (loop .net) (loop .inv .2) _ (omega arith) (due-at .ensures) _ (c .before .before .found .given .1))
+    (run-refused (args .s .now) (args .elements .elements) 0 (withLink (args .s .now)) _ (loop .left) (loop .at) (loop .stage) (loop .net)
+    (loop .inv .2) _ (omega arith) (due-at .ensures) _ (c .before .before .found .given .1))
 
 enum-known-found-2 : tie.Need-enum-known-found-2 Inv-loop μ-loop
 enum-known-found-2 c = search needs
 
--- the record found in a turn: it fits, and the stage gives its length and what comes next
+-- the record found in a turn
 turn :
     (c : tie.After-known-told2 Inv-loop μ-loop) →
-    let s = c .before .before .before .before .before .before .before .args .s .now in
-    let found = c .before .found2 .given .0 in
-    (c .before .before .before .before .before .loop .at + found .1 .0 ≤ length s) × (found .1 .0 ≡ 12) × (found .1 .1 .0 ≡ Links)
+    Turn (c .before .before .before .before .before .before .before .args .s .now) (c .before .before .before .before .before .loop .at) Links
+    (c .before .found2 .given .0 .1 .0) (c .before .found2 .given .0 .1 .1 .0)
 turn c =
     let args = c .before .before .before .before .before .before .before .args in
     let loop = c .before .before .before .before .before .loop in
-    turn-whole (args .s .now) (args .elements .elements) 0 (loop .at) (loop .stage) Links _ _ _ _ (c .before .before .before .due-at .ensures) (loop .inv .0) (c .before .found2 .given .1)
+    turn-whole (args .s .now) (args .elements .elements) 0 (loop .at) (loop .stage) Links _ _ _ _ (c .before .before .before .due-at .ensures)
+    (loop .inv .0) (c .before .found2 .given .1)
 
-add-word-at : tie.Need-add-word-at Inv-loop μ-loop
-add-word-at c = let w = turn c in omega arith
-
-word-at-requires : tie.Need-word-at-requires Inv-loop μ-loop
-word-at-requires c κs = let w = turn c in omega arith
+link-at-requires : tie.Need-link-at-requires Inv-loop μ-loop
+link-at-requires c κs = let w = turn c in omega arith
 
 mul-net : tie.Need-mul-net Inv-loop μ-loop
 mul-net c = omega arith
@@ -70,35 +68,17 @@ mul-net c = omega arith
 element-write-net : tie.Need-element-write-net Inv-loop μ-loop
 element-write-net c = omega arith
 
-add-word-at-2 : tie.Need-add-word-at-2 Inv-loop μ-loop
-add-word-at-2 c = let w = turn (c .before) in omega arith
-
-word-at-requires-2 : tie.Need-word-at-requires-2 Inv-loop μ-loop
-word-at-requires-2 c κs = let w = turn (c .before) in omega arith
-
 mul-net-2 : tie.Need-mul-net-2 Inv-loop μ-loop
 mul-net-2 c = omega arith
 
 element-write-net-2 : tie.Need-element-write-net-2 Inv-loop μ-loop
 element-write-net-2 c = omega arith
 
-add-word-at-3 : tie.Need-add-word-at-3 Inv-loop μ-loop
-add-word-at-3 c = let w = turn (c .before .before) in omega arith
-
-word-at-requires-3 : tie.Need-word-at-requires-3 Inv-loop μ-loop
-word-at-requires-3 c κs = let w = turn (c .before .before) in omega arith
-
 mul-net-3 : tie.Need-mul-net-3 Inv-loop μ-loop
 mul-net-3 c = omega arith
 
 element-write-net-3 : tie.Need-element-write-net-3 Inv-loop μ-loop
 element-write-net-3 c = omega arith
-
-add-word-at-4 : tie.Need-add-word-at-4 Inv-loop μ-loop
-add-word-at-4 c = let w = turn (c .before .before .before) in omega arith
-
-word-at-requires-4 : tie.Need-word-at-requires-4 Inv-loop μ-loop
-word-at-requires-4 c κs = let w = turn (c .before .before .before) in omega arith
 
 mul-net-4 : tie.Need-mul-net-4 Inv-loop μ-loop
 mul-net-4 c = omega arith
@@ -110,10 +90,10 @@ add-net : tie.Need-add-net Inv-loop μ-loop
 add-net c = omega arith
 
 cast-at : tie.Need-cast-at Inv-loop μ-loop
-cast-at c = omega arith
+cast-at c = search needs
 
 add-at : tie.Need-add-at Inv-loop μ-loop
-add-at c = let w = turn (c .before .before .before .before) in omega arith
+add-at c = let w = turn (c .before) in omega arith
 
 sub-left : tie.Need-sub-left Inv-loop μ-loop
 sub-left c = omega arith
@@ -123,16 +103,16 @@ loop-less c = omega arith
 
 loop-again : tie.Need-loop-again Inv-loop μ-loop
 loop-again c =
-    let args = c .before .before .before .before .before .before .before .before .before .before .before .args in
-    let loop = c .before .before .before .before .before .before .before .before .before .loop in
-    let due-at = c .before .before .before .before .before .before .before .due-at in
-    let found2 = c .before .before .before .before .before .found2 in
-    let w = turn (c .before .before .before .before) in (
-      w .2,
+    let args = c .before .before .before .before .before .before .before .before .args in
+    let loop = c .before .before .before .before .before .before .loop in
+    let due-at = c .before .before .before .before .due-at in
+    let w = turn (c .before) in (
+      w .next-is,
       omega arith,
       ap (records (args .s .now) (args .elements .elements) 0 (withLink (args .s .now)) (loop .left - 1) _ _)
-          (link-taken (args .s .now) (loop .at) (loop .net) _ _ _ _ (c .before .before .before .word-at .ensures) (c .before .before .word-at2 .ensures) (c .before .word-at3 .ensures) (c .word-at4 .ensures)) ∙
-          run-turn (args .s .now) (args .elements .elements) 0 (withLink (args .s .now)) _ (loop .left) (loop .at) (loop .stage) (loop .net) (loop .inv .2) _ (omega arith) (due-at .ensures) _ _ _ (found2 .given .1),
+          (link-taken (args .s .now) (loop .at) (loop .net) _ (c .link-at .ensures)) ∙
+          run-turn (args .s .now) (args .elements .elements) 0 (withLink (args .s .now)) _ (loop .left) (loop .at) (loop .stage) (loop .net)
+          (loop .inv .2) _ (omega arith) (due-at .ensures) _ _ _ (c .before .before .found2 .given .1),
     )
 
 returns-2 : tie.Need-returns-2 Inv-loop μ-loop
@@ -141,7 +121,8 @@ returns-2 c =
     let args = c .before .before .before .args in
     let loop = c .before .loop in
     ap networkPart
-    (run-done (args .s .now) (args .elements .elements) 0 (withLink (args .s .now)) _ (loop .left) (loop .at) (loop .stage) (loop .net) (loop .inv .2) (c .loop-test .left))
+    (run-done (args .s .now) (args .elements .elements) 0 (withLink (args .s .now)) _ (loop .left) (loop .at) (loop .stage) (loop .net) (loop .inv .2)
+    (c .loop-test .left))
 
 pub read-links-spec : {M : Type 1} → statement M
 read-links-spec =
@@ -155,20 +136,13 @@ read-links-spec =
     refused-network-requires
     returns
     enum-known-found-2
-    add-word-at
-    word-at-requires
+    link-at-requires
     mul-net
     element-write-net
-    add-word-at-2
-    word-at-requires-2
     mul-net-2
     element-write-net-2
-    add-word-at-3
-    word-at-requires-3
     mul-net-3
     element-write-net-3
-    add-word-at-4
-    word-at-requires-4
     mul-net-4
     element-write-net-4
     add-net

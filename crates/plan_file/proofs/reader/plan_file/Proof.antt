@@ -29,26 +29,34 @@ cast-steps-on c = omega arith
 add-steps-on : tie.Need-add-steps-on
 add-steps-on c =
     let args = c .before .before .before .before .before .args in
-    let w = due-kept (args .s .now) 0 (args .links) (args .at) PlanHead (sym (c .before .before .before .due-at .ensures) ∙ c .before .found2 .given .1) in omega (arith, w .framed .fits)
+    let w = due-kept (args .s .now) 0 (args .links) (args .at) PlanHead
+    (sym (c .before .before .before .due-at .ensures) ∙ c .before .found2 .given .1) in omega (arith, w .framed .fits)
 
 steps-on-requires : tie.Need-steps-on-requires
 steps-on-requires c κs =
     let args = c .before .before .before .before .before .args in
-    let w = due-kept (args .s .now) 0 (args .links) (args .at) PlanHead (sym (c .before .before .before .due-at .ensures) ∙ c .before .found2 .given .1) in (omega (arith, w .framed .fits, w .framed .long-at), plan-head-kept w, w .framed .next-at)
+    let w = due-kept (args .s .now) 0 (args .links) (args .at) PlanHead
+    (sym (c .before .before .before .due-at .ensures) ∙ c .before .found2 .given .1) in (
+      omega (arith, w .framed .fits, w .framed .enough),
+      plan-head-kept w,
+      w .framed .next-at,
+    )
 
 returns : tie.Need-returns
 unfolding planFile
 returns c =
     let args = c .before .before .before .before .before .before .args in
     let due-at = c .before .before .before .before .due-at in
-    c .refused-plan .ensures ∙ ap planPart (head-refused (args .s .now) (args .links) (args .at) PlanHead emptyPlan (stepsOn (args .s .now) (args .links) (args .at)) _ (due-at .ensures) _ (c .before .before .found .given .1))
+    c .refused-plan .ensures ∙ ap planPart (head-refused (args .s .now) (args .links) (args .at) PlanHead emptyPlan
+    (stepsOn (args .s .now) (args .links) (args .at)) _ (due-at .ensures) _ (c .before .before .found .given .1))
 
 returns-2 : tie.Need-returns-2
 unfolding planFile
 returns-2 c =
     let args = c .before .before .before .before .before .before .args in
     let due-at = c .before .before .before .before .due-at in
-    c .steps-on .ensures ∙ ap planPart (head-found (args .s .now) (args .links) (args .at) PlanHead emptyPlan (stepsOn (args .s .now) (args .links) (args .at)) _ (due-at .ensures) _ _ _ (c .before .before .found2 .given .1))
+    c .steps-on .ensures ∙ ap planPart (head-found (args .s .now) (args .links) (args .at) PlanHead emptyPlan
+    (stepsOn (args .s .now) (args .links) (args .at)) _ (due-at .ensures) _ _ _ (c .before .before .found2 .given .1))
 
 pub plan-file-spec : {M : Type 1} → statement M
 plan-file-spec =

@@ -3,13 +3,12 @@
 use mathlib.Core.Path.{_≡_, refl, ap, _∙_}
 use Prim.Native.Nat.{_+_, _-_, _≤_}
 use native.Mathlib.Omega.{arith}
-use lib.ListN.{length}
 use Rattle.plan_file.specs.declared.plan.Plan.{Plan}
 use Rattle.network.specs.declared.stage.Stage.the-variants.{Steps}
 use Rattle.network_file.specs.Runs.{records}
 use Rattle.plan_file.specs.PlanFiles.{emptyPlan, withStep}
 use Rattle.plan_file.specs.Inputs.{planPart}
-use Rattle.network_file.proofs.Outcomes.{run-done, run-refused, run-turn, turn-whole}
+use Rattle.network_file.proofs.Outcomes.{Turn, run-done, run-refused, run-turn, turn-whole}
 use Rattle.plan_file.proofs.Taken.{step-taken}
 use borrow.Author.Needs.{needs}
 use Rattle.plan_file.proofs.reader.read_steps.Statement.{statement}
@@ -17,7 +16,8 @@ use Rattle.plan_file.proofs.reader.read_steps.Tie as tie
 
 abbrev Inv-loop : tie.InvT-loop
 Inv-loop s count start links plan₀ at₀ stage₀ left₀ plan at stage left =
-    (stage ≡ Steps) × (plan .steps + left ≤ 255) × (records s 0 links (withStep s) left at stage plan ≡ records s 0 links (withStep s) left₀ at₀ stage₀ plan₀)
+    (stage ≡ Steps) × (plan .steps + left ≤ 255) × (records s 0 links (withStep s) left at stage plan ≡ records s 0 links (withStep s) left₀ at₀
+    stage₀ plan₀)
 
 abbrev μ-loop : tie.MeasureT-loop
 μ-loop s count start links plan₀ at₀ stage₀ left₀ plan at stage left = left
@@ -48,8 +48,10 @@ returns c =
     let empty = c .before .before .before .before .before .before .before .empty in
     c .refused-plan .ensures ∙
     ap planPart
-    (run-refused (args .s .now) 0 (args .links) (withStep (args .s .now)) _ (loop .left) (loop .at) (loop .stage) (loop .plan) (loop .inv .2) _ (omega arith) (due-at .ensures) _ (c .before .before .found .given .1)) ∙
-    ap (λ (x : Plan). planPart (records (args .s .now) 0 (args .links) (withStep (args .s .now)) (args .count) (args .start) (args .first) x)) (empty .ensures)
+    (run-refused (args .s .now) 0 (args .links) (withStep (args .s .now)) _ (loop .left) (loop .at) (loop .stage) (loop .plan) (loop .inv .2) _
+    (omega arith) (due-at .ensures) _ (c .before .before .found .given .1)) ∙
+    ap (λ (x : Plan). planPart (records (args .s .now) 0 (args .links) (withStep (args .s .now)) (args .count) (args .start) (args .first) x))
+    (empty .ensures)
 
 enum-known-found-2 : tie.Need-enum-known-found-2 Inv-loop μ-loop
 enum-known-found-2 c = search needs
@@ -57,16 +59,16 @@ enum-known-found-2 c = search needs
 cast-i : tie.Need-cast-i Inv-loop μ-loop
 cast-i c = omega arith
 
--- the record found in a turn: it fits, and the stage gives its length and what comes next
+-- the record found in a turn
 turn :
     (c : tie.After-known-told2 Inv-loop μ-loop) →
-    let s = c .before .before .before .before .before .before .before .before .args .s .now in
-    let found = c .before .found2 .given .0 in
-    (c .before .before .before .before .before .loop .at + found .1 .0 ≤ length s) × (found .1 .0 ≡ 8) × (found .1 .1 .0 ≡ Steps)
+    Turn (c .before .before .before .before .before .before .before .before .args .s .now) (c .before .before .before .before .before .loop .at) Steps
+    (c .before .found2 .given .0 .1 .0) (c .before .found2 .given .0 .1 .1 .0)
 turn c =
     let args = c .before .before .before .before .before .before .before .before .args in
     let loop = c .before .before .before .before .before .loop in
-    turn-whole (args .s .now) 0 (args .links) (loop .at) (loop .stage) Steps _ _ _ _ (c .before .before .before .due-at .ensures) (loop .inv .0) (c .before .found2 .given .1)
+    turn-whole (args .s .now) 0 (args .links) (loop .at) (loop .stage) Steps _ _ _ _ (c .before .before .before .due-at .ensures) (loop .inv .0)
+    (c .before .found2 .given .1)
 
 add-word-at : tie.Need-add-word-at Inv-loop μ-loop
 add-word-at c = let w = turn c in omega arith
@@ -111,11 +113,12 @@ loop-again c =
     let due-at = c .before .before .before .before .before .due-at in
     let found2 = c .before .before .before .found2 in
     let w = turn (c .before .before) in (
-      w .2,
+      w .next-is,
       omega arith,
       ap (records (args .s .now) 0 (args .links) (withStep (args .s .now)) (loop .left - 1) _ _)
           (step-taken (args .s .now) (loop .at) (loop .plan) _ _ (c .before .word-at .ensures) (c .word-at2 .ensures)) ∙
-          run-turn (args .s .now) 0 (args .links) (withStep (args .s .now)) _ (loop .left) (loop .at) (loop .stage) (loop .plan) (loop .inv .2) _ (omega arith) (due-at .ensures) _ _ _ (found2 .given .1),
+          run-turn (args .s .now) 0 (args .links) (withStep (args .s .now)) _ (loop .left) (loop .at) (loop .stage) (loop .plan) (loop .inv .2) _
+          (omega arith) (due-at .ensures) _ _ _ (found2 .given .1),
     )
 
 returns-2 : tie.Need-returns-2 Inv-loop μ-loop
@@ -124,8 +127,10 @@ returns-2 c =
     let args = c .before .before .before .before .args in
     let loop = c .before .loop in
     ap planPart
-    (run-done (args .s .now) 0 (args .links) (withStep (args .s .now)) _ (loop .left) (loop .at) (loop .stage) (loop .plan) (loop .inv .2) (c .loop-test .left)) ∙
-    ap (λ (x : Plan). planPart (records (args .s .now) 0 (args .links) (withStep (args .s .now)) (args .count) (args .start) (args .first) x)) (c .before .before .empty .ensures)
+    (run-done (args .s .now) 0 (args .links) (withStep (args .s .now)) _ (loop .left) (loop .at) (loop .stage) (loop .plan) (loop .inv .2)
+    (c .loop-test .left)) ∙
+    ap (λ (x : Plan). planPart (records (args .s .now) 0 (args .links) (withStep (args .s .now)) (args .count) (args .start) (args .first) x))
+    (c .before .before .empty .ensures)
 
 pub read-steps-spec : {M : Type 1} → statement M
 read-steps-spec =
