@@ -143,3 +143,7 @@ network-input-size s at stage n h =
     let c = closed-reached s (networkFile s) at stage n h in
     let size = network-size s at stage n (c .0) in
     (c .0, omega (arith, c .1, size .inside), omega (arith, c .1, size .at-most))
+
+-- an accepted network file has at most 1,804 bytes
+pub network-most : (s : List ℕ) (at : ℕ) (stage : Stage) (n : Network) → networkInput s ≡ reached at stage n → length s ≤ 1804
+network-most s at stage n h = network-input-size s at stage n h .2

@@ -130,3 +130,7 @@ both-size s at stage n p h =
       ends = end .1;
       at-most = omega (arith, end .1, size .at-most, length-is .at-most);
     }
+
+-- an accepted network file with its plan file has at most 3,854 bytes
+pub both-most : (s : List ℕ) (at : ℕ) (stage : Stage) (n : Network) (p : Plan) → bothInput s ≡ reached at stage (n, p) → length s ≤ 3854
+both-most s at stage n p h = both-size s at stage n p h .at-most

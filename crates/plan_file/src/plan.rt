@@ -10,8 +10,6 @@ pub struct Plan {
 }
 
 impl Plan {
-    pub const MAX_STEPS: usize = 255;
-
     pub fn empty() -> Plan
         ensures { λ r. ⌜ r ≡ emptyPlan ⌝ }
     {
