@@ -1,3 +1,2 @@
 pub mod Refusals
-pub mod Stages
 pub mod Networks

@@ -1,6 +1,5 @@
 // What a network is, and the records that its files are made of.
 pub mod refusal;
-pub mod stage;
 
 ghost use mathlib.Core.Path.{_≡_};
 ghost use Rattle.network.specs.Networks.{emptyNetwork};

@@ -5,14 +5,14 @@ use mathlib.Core.Path.{_≡_, refl, ap, sym, _∙_}
 use Prim.Native.Nat.{ℕ, _+_}
 use native.Mathlib.Omega.{arith}
 use Rattle.network.specs.declared.refusal.Refusal.{Refusal}
-use Rattle.network.specs.declared.stage.Stage.{Stage}
-use Rattle.network.specs.declared.stage.Stage.the-variants.{Elements, Links}
+use Rattle.stages.specs.declared.Stage.{Stage}
+use Rattle.stages.specs.declared.Stage.the-variants.{Elements, Links}
 use Rattle.network.specs.declared.Network.{Network}
 use Rattle.records.specs.declared.Found.{Found}
 use Rattle.records.specs.declared.Found.the-variants.{Record, Refused as Found·Refused}
 use Rattle.network_file.specs.declared.reader.Reached.the-variants.{At, Refused}
 use Rattle.network_file.specs.declared.reader.NetworkPart.{NetworkPart}
-use Rattle.network.specs.Stages.{afterLast}
+use Rattle.stages.specs.Stages.{afterLast}
 use Rattle.records.specs.Records.{word, dueAt}
 use Rattle.network.specs.Networks.{emptyNetwork}
 use Rattle.network_file.specs.Runs.{Outcome, refused, reached, andThen, records, asIs}

@@ -8,8 +8,8 @@ use native.Mathlib.Nat.{le-of-suc-le-suc, eq-or-lt-of-le, not-suc-le-zero}
 use native.Mathlib.Omega.{arith}
 use lib.ListN.{length, getD, set, length-set}
 use lib.Seq.{getD-set-same, getD-set-other}
-use Rattle.network.specs.declared.stage.Stage.{Stage}
-use Rattle.network.specs.declared.stage.Stage.the-variants.{Elements, Links}
+use Rattle.stages.specs.declared.Stage.{Stage}
+use Rattle.stages.specs.declared.Stage.the-variants.{Elements, Links}
 use Rattle.network.specs.declared.Network.{Network}
 use Rattle.records.specs.Records.{word}
 use Rattle.network.specs.Networks.{emptyNetwork}

@@ -13,13 +13,13 @@ use borrow.Author.Tests.{ltb-true, ltb-false, lt-ltb, le-ltb, eqb-true, not-fals
 use Rattle.network.specs.declared.refusal.Rule.the-variants.{RecordMissing, KindOutOfPlace, WrongLength, RecordCutOff}
 use Rattle.network.specs.declared.refusal.Verdict.{Verdict}
 use Rattle.network.specs.declared.refusal.Verdict.the-variants.{Kept, Broken}
-use Rattle.network.specs.declared.stage.Stage.{Stage}
-use Rattle.network.specs.declared.stage.Stage.the-variants.{Head, Elements, Links}
+use Rattle.stages.specs.declared.Stage.{Stage}
+use Rattle.stages.specs.declared.Stage.the-variants.{Head, Elements, Links}
 use Rattle.records.specs.declared.Found.{Found}
 use Rattle.records.specs.declared.Found.the-variants.{Record, Refused}
 use Rattle.network.specs.declared.Network.{Network}
 use Rattle.network.specs.Refusals.{pick, firstBroken}
-use Rattle.network.specs.Stages.{nextStage, afterLast}
+use Rattle.stages.specs.Stages.{nextStage, afterLast}
 use Rattle.records.specs.Records.{word, lengthField, kindField, lengthOf, isRefused, foundBy, frameRules, headRules, elementRules, linkRules, planHeadRules, stepRules, fieldRules, recordRules, dueAt}
 use Rattle.network.specs.Networks.{emptyNetwork}
 use Rattle.network_file.specs.Runs.{Outcome, refused, reached, andThen, records, asIs}

@@ -11,10 +11,10 @@ use lib.ListN.{length}
 use borrow.Author.Tests.{ltb-true, ltb-false}
 use Rattle.network.specs.declared.refusal.Refusal.{Refusal}
 use Rattle.network.specs.declared.refusal.Rule.the-variants.{ByteAfterEnd}
-use Rattle.network.specs.declared.stage.Stage.{Stage}
-use Rattle.network.specs.declared.stage.Stage.the-variants.{Head}
+use Rattle.stages.specs.declared.Stage.{Stage}
+use Rattle.stages.specs.declared.Stage.the-variants.{Head}
 use Rattle.network.specs.declared.Network.{Network}
-use Rattle.network.specs.Stages.{afterLast}
+use Rattle.stages.specs.Stages.{afterLast}
 use Rattle.records.specs.Records.{word}
 use Rattle.network.specs.Networks.{emptyNetwork}
 use Rattle.network_file.specs.Runs.{Outcome, refused, reached, andThen, records, asIs}

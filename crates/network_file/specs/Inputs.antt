@@ -5,7 +5,7 @@ use Prim.Native.Nat.{ℕ}
 use lib.Dec.{ltb}
 use lib.ListN.{length}
 use Rattle.network.specs.declared.refusal.Rule.the-variants.{ByteAfterEnd}
-use Rattle.network.specs.declared.stage.Stage.{Stage}
+use Rattle.stages.specs.declared.Stage.{Stage}
 use Rattle.network.specs.declared.Network.{Network}
 use Rattle.network_file.specs.declared.Answer.{Answer}
 use Rattle.network_file.specs.declared.Answer.the-variants.{Accepted, Refused}

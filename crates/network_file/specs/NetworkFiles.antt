@@ -5,11 +5,11 @@ use Prim.Native.Nat.{ℕ, _+_}
 use Rattle.network.specs.declared.Element.{Element}
 use Rattle.network.specs.declared.Link.{Link}
 use Rattle.network.specs.declared.Network.{Network}
-use Rattle.network.specs.declared.stage.Stage.{Stage}
-use Rattle.network.specs.declared.stage.Stage.the-variants.{Head}
+use Rattle.stages.specs.declared.Stage.{Stage}
+use Rattle.stages.specs.declared.Stage.the-variants.{Head}
 use Rattle.network.specs.Networks.{emptyNetwork, elementAdded, linkAdded}
 use Rattle.records.specs.Records.{word}
-use Rattle.network.specs.Stages.{afterLast}
+use Rattle.stages.specs.Stages.{afterLast}
 use Rattle.network_file.specs.Runs.{Outcome, andThen, records, asIs}
 
 -- Kind 2: own load, capacity, flags

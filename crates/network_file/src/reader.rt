@@ -3,11 +3,11 @@ use network::Element;
 use network::Link;
 use network::Network;
 use network::refusal::Refusal;
-use network::stage::Stage;
-use network::stage::after_last;
 use records::Found;
 use records::due_at;
 use records::word_at;
+use stages::Stage;
+use stages::after_last;
 ghost use mathlib.Core.Path.{_≡_};
 ghost use Prim.Native.Nat.{_+_, _<_, _≤_};
 ghost use lib.ListN.{length};
@@ -16,8 +16,8 @@ ghost use Rattle.network.specs.Networks.{emptyNetwork};
 ghost use Rattle.network_file.specs.Runs.{records, refused};
 ghost use Rattle.network_file.specs.NetworkFiles.{elementOf, linkOf, withElement, withLink, networkFile, elementsOn, linksOn, endOn};
 ghost use Rattle.network_file.specs.Inputs.{networkPart};
-ghost use Rattle.network.specs.declared.stage.Stage.{Stage};
-ghost use Rattle.network.specs.declared.stage.Stage.the-variants.{Elements, Links};
+ghost use Rattle.stages.specs.declared.Stage.{Stage};
+ghost use Rattle.stages.specs.declared.Stage.the-variants.{Elements, Links};
 
 // How far reading came: the offset and the stage of the record that is due next, or the refusal.
 pub enum Reached {

@@ -4,7 +4,7 @@ use mathlib.Core.Path.{_≡_}
 use mathlib.Core.List.{List}
 use Prim.Native.Nat.{ℕ}
 use native.Mathlib.Omega.{arith}
-use Rattle.network.specs.declared.stage.Stage.{Stage}
+use Rattle.stages.specs.declared.Stage.{Stage}
 use Rattle.plan_file.specs.declared.plan.Plan.{Plan}
 use Rattle.network_file.specs.Runs.{reached}
 use Rattle.plan_file.specs.PlanFiles.{planFile}

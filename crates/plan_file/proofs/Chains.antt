@@ -4,11 +4,11 @@ use mathlib.Core.List.{List}
 use mathlib.Core.Path.{_≡_, ap, _∙_}
 use Prim.Native.Nat.{ℕ}
 use Rattle.network.specs.declared.refusal.Refusal.{Refusal}
-use Rattle.network.specs.declared.stage.Stage.{Stage}
+use Rattle.stages.specs.declared.Stage.{Stage}
 use Rattle.plan_file.specs.declared.plan.Plan.{Plan}
 use Rattle.network_file.specs.declared.reader.Reached.the-variants.{At, Refused}
 use Rattle.plan_file.specs.declared.reader.PlanPart.{PlanPart}
-use Rattle.network.specs.Stages.{afterLast}
+use Rattle.stages.specs.Stages.{afterLast}
 use Rattle.network_file.specs.Runs.{Outcome, reached}
 use Rattle.plan_file.specs.PlanFiles.{emptyPlan, stepsOn, planEndOn}
 use Rattle.plan_file.specs.Inputs.{planPart}

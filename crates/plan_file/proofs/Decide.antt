@@ -5,9 +5,9 @@ use mathlib.Core.List.{List}
 use Prim.Native.Nat.{ℕ, _+_, _≤_}
 use native.Mathlib.Omega.{arith}
 use lib.ListN.{take}
-use Rattle.network.specs.declared.stage.Stage.the-variants.{PlanHead, Steps}
+use Rattle.stages.specs.declared.Stage.the-variants.{PlanHead, Steps}
 use Rattle.plan_file.specs.declared.plan.Plan.{Plan}
-use Rattle.network.specs.Stages.{afterLast}
+use Rattle.stages.specs.Stages.{afterLast}
 use Rattle.records.specs.Records.{word}
 use Rattle.network_file.specs.Runs.{Outcome, andThen, asIs}
 use Rattle.network_file.specs.NetworkFiles.{networkFile}

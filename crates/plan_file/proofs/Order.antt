@@ -6,11 +6,11 @@ use mathlib.Core.Logic.{_⊎_, ⊎-elim, ⊎-map}
 use Prim.Native.Nat.{ℕ, _+_}
 use native.Mathlib.Omega.{arith}
 use Rattle.network.specs.declared.refusal.Refusal.{Refusal}
-use Rattle.network.specs.declared.stage.Stage.{Stage}
-use Rattle.network.specs.declared.stage.Stage.the-variants.{PlanHead}
+use Rattle.stages.specs.declared.Stage.{Stage}
+use Rattle.stages.specs.declared.Stage.the-variants.{PlanHead}
 use Rattle.network.specs.declared.Network.{Network}
 use Rattle.plan_file.specs.declared.plan.Plan.{Plan}
-use Rattle.network.specs.Stages.{afterLast}
+use Rattle.stages.specs.Stages.{afterLast}
 use Rattle.records.specs.Records.{word}
 use Rattle.network_file.specs.Runs.{refused, reached, asIs}
 use Rattle.network_file.specs.NetworkFiles.{networkFile}

@@ -3,10 +3,10 @@
 use mathlib.Core.Path.{_≡_, refl}
 use mathlib.Core.List.{List}
 use Prim.Native.Nat.{ℕ, _+_}
-use Rattle.network.specs.declared.stage.Stage.{Stage}
-use Rattle.network.specs.declared.stage.Stage.the-variants.{PlanHead}
+use Rattle.stages.specs.declared.Stage.{Stage}
+use Rattle.stages.specs.declared.Stage.the-variants.{PlanHead}
 use Rattle.plan_file.specs.declared.plan.Plan.{Plan}
-use Rattle.network.specs.Stages.{afterLast}
+use Rattle.stages.specs.Stages.{afterLast}
 use Rattle.records.specs.Records.{word}
 use Rattle.network_file.specs.Runs.{Outcome, refused, reached, andThen, records, asIs}
 use Rattle.plan_file.specs.PlanFiles.{emptyPlan, withStep, planFile, stepsOn, planEndOn}

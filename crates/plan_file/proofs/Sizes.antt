@@ -5,8 +5,8 @@ use mathlib.Core.List.{List}
 use Prim.Native.Nat.{ℕ, _+_, _*_, _≤_}
 use native.Mathlib.Omega.{arith}
 use lib.ListN.{length}
-use Rattle.network.specs.declared.stage.Stage.{Stage}
-use Rattle.network.specs.declared.stage.Stage.the-variants.{PlanHead, Steps, PlanEnd, Over}
+use Rattle.stages.specs.declared.Stage.{Stage}
+use Rattle.stages.specs.declared.Stage.the-variants.{PlanHead, Steps, PlanEnd, Over}
 use Rattle.network.specs.declared.Network.{Network}
 use Rattle.plan_file.specs.declared.plan.Plan.{Plan}
 use Rattle.records.specs.Records.{word}

@@ -1,12 +1,12 @@
 // The plan file: one plan head, its steps, one end.
 use crate::plan::Plan;
 use network::refusal::Refusal;
-use network::stage::Stage;
-use network::stage::after_last;
 use network_file::reader::Reached;
 use records::Found;
 use records::due_at;
 use records::word_at;
+use stages::Stage;
+use stages::after_last;
 ghost use mathlib.Core.Path.{_≡_};
 ghost use Prim.Native.Nat.{_+_, _<_, _≤_};
 ghost use lib.ListN.{length};
@@ -14,7 +14,7 @@ ghost use Rattle.records.specs.Records.{word};
 ghost use Rattle.network_file.specs.Runs.{records, refused};
 ghost use Rattle.plan_file.specs.PlanFiles.{emptyPlan, withStep, planFile, stepsOn, planEndOn};
 ghost use Rattle.plan_file.specs.Inputs.{planPart};
-ghost use Rattle.network.specs.declared.stage.Stage.the-variants.{Steps};
+ghost use Rattle.stages.specs.declared.Stage.the-variants.{Steps};
 
 // What has been read; the empty plan where it was refused.
 pub struct PlanPart {

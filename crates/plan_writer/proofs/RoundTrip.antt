@@ -12,12 +12,12 @@ use lib.ListN.{length, getD, set, take, drop, replicate, length-append, take-app
 use lib.Seq.{paste, paste-suc, getD-take, length-take-le, take-at}
 use lib.Dec.{eqb}
 use borrow.Author.Tests.{le-ltb, lt-leb}
-use Rattle.network.specs.declared.stage.Stage.{Stage}
-use Rattle.network.specs.declared.stage.Stage.the-variants.{PlanHead, Steps, PlanEnd, Over}
+use Rattle.stages.specs.declared.Stage.{Stage}
+use Rattle.stages.specs.declared.Stage.the-variants.{PlanHead, Steps, PlanEnd, Over}
 use Rattle.records.specs.declared.Found.the-variants.{Record}
 use Rattle.network.specs.declared.Network.{Network}
 use Rattle.plan_file.specs.declared.plan.Plan.{Plan}
-use Rattle.network.specs.Stages.{nextStage}
+use Rattle.stages.specs.Stages.{nextStage}
 use Rattle.records.specs.Records.{word, lengthOf, fieldRules, planHeadRules, stepRules, dueAt}
 use Rattle.network_file.specs.Runs.{reached, records, asIs}
 use Rattle.network_file.specs.NetworkFiles.{networkFile}

@@ -12,13 +12,13 @@ use Rattle.network.specs.declared.refusal.Refusal.{Refusal}
 use Rattle.network.specs.declared.refusal.Rule.{Rule}
 use Rattle.network.specs.declared.refusal.Verdict.{Verdict}
 use Rattle.network.specs.declared.refusal.Verdict.the-variants.{Kept, Broken}
-use Rattle.network.specs.declared.stage.Stage.{Stage}
-use Rattle.network.specs.declared.stage.Stage.the-variants.{Head, Elements, Links, End, PlanHead, Steps, PlanEnd, Over}
-use Rattle.network.specs.declared.stage.Next.{Next}
-use Rattle.network.specs.declared.stage.Next.the-variants.{Go, Refused as Next·Refused}
+use Rattle.stages.specs.declared.Stage.{Stage}
+use Rattle.stages.specs.declared.Stage.the-variants.{Head, Elements, Links, End, PlanHead, Steps, PlanEnd, Over}
+use Rattle.stages.specs.declared.Next.{Next}
+use Rattle.stages.specs.declared.Next.the-variants.{Go, Refused as Next·Refused}
 use Rattle.records.specs.declared.Found.the-variants.{Record, Refused}
 use Rattle.network.specs.Refusals.{Check, pick, firstBroken}
-use Rattle.network.specs.Stages.{leads, nextStage}
+use Rattle.stages.specs.Stages.{leads, nextStage}
 use Rattle.records.specs.Records.{word, lengthField, kindField, lengthOf, either, isRefused, named, suits, foundBy, frameRules, headRules, elementRules, linkRules, planHeadRules, stepRules, fieldRules, recordRules, recordAt, dueAt}
 
 -- The first broken of two lists of rules.

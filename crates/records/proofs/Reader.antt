@@ -12,13 +12,13 @@ use Rattle.network.specs.declared.refusal.Rule.{Rule}
 use Rattle.network.specs.declared.refusal.Rule.the-variants.{RecordMissing, KindOutOfPlace, WrongLength, RecordCutOff}
 use Rattle.network.specs.declared.refusal.Verdict.{Verdict}
 use Rattle.network.specs.declared.refusal.Verdict.the-variants.{Kept, Broken}
-use Rattle.network.specs.declared.stage.Stage.{Stage}
-use Rattle.network.specs.declared.stage.Next.{Next}
-use Rattle.network.specs.declared.stage.Next.the-variants.{Go, Refused as Next·Refused}
+use Rattle.stages.specs.declared.Stage.{Stage}
+use Rattle.stages.specs.declared.Next.{Next}
+use Rattle.stages.specs.declared.Next.the-variants.{Go, Refused as Next·Refused}
 use Rattle.records.specs.declared.Found.{Found}
 use Rattle.records.specs.declared.Found.the-variants.{Record, Refused}
 use Rattle.network.specs.Refusals.{Check, check, pick, firstBroken}
-use Rattle.network.specs.Stages.{nextStage}
+use Rattle.stages.specs.Stages.{nextStage}
 use Rattle.records.specs.Records.{word, lengthOf, kindField, named, foundBy, frameRules, fieldRules, recordAt, dueAt}
 use Rattle.records.proofs.Due.{frame-kept, due-fields}
 

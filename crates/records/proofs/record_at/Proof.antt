@@ -2,7 +2,7 @@
 -- Assumes nothing.
 use mathlib.Core.Path.{_≡_, refl, ap, sym, _∙_}
 use Rattle.records.specs.Records.{word}
-use Rattle.network.specs.Stages.{nextStage}
+use Rattle.stages.specs.Stages.{nextStage}
 use Rattle.records.proofs.Reader.{missing, out-of-place, wrong-length, cut-off, whole}
 use native.Mathlib.Omega.{arith}
 use borrow.Author.Needs.{needs}

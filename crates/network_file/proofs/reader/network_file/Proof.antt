@@ -3,7 +3,7 @@
 use mathlib.Core.Path.{ap, sym, _∙_}
 use native.Mathlib.Omega.{arith}
 use native.Mathlib.Nat.{zero-add}
-use Rattle.network.specs.declared.stage.Stage.the-variants.{Head}
+use Rattle.stages.specs.declared.Stage.the-variants.{Head}
 use Rattle.network.specs.Networks.{emptyNetwork}
 use Rattle.network_file.specs.NetworkFiles.{elementsOn, networkFile}
 use Rattle.network_file.specs.Inputs.{networkPart}

@@ -3,7 +3,7 @@
 use mathlib.Core.Path.{_≡_, refl, ap, sym, _∙_}
 use Prim.Native.Nat.{_+_, _-_, _<_, _≤_}
 use native.Mathlib.Omega.{arith}
-use Rattle.network.specs.declared.stage.Stage.the-variants.{Elements}
+use Rattle.stages.specs.declared.Stage.the-variants.{Elements}
 use Rattle.network_file.specs.Runs.{records}
 use Rattle.network_file.specs.NetworkFiles.{withElement}
 use Rattle.network_file.specs.Inputs.{networkPart}

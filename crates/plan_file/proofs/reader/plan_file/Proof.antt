@@ -2,7 +2,7 @@
 -- Assumes nothing.
 use mathlib.Core.Path.{ap, sym, _∙_}
 use native.Mathlib.Omega.{arith}
-use Rattle.network.specs.declared.stage.Stage.the-variants.{PlanHead}
+use Rattle.stages.specs.declared.Stage.the-variants.{PlanHead}
 use Rattle.plan_file.specs.PlanFiles.{emptyPlan, stepsOn, planFile}
 use Rattle.plan_file.specs.Inputs.{planPart}
 use Rattle.records.proofs.Due.{due-kept, plan-head-kept}

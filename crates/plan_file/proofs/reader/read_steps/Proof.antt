@@ -4,7 +4,7 @@ use mathlib.Core.Path.{_≡_, refl, ap, _∙_}
 use Prim.Native.Nat.{_+_, _-_, _≤_}
 use native.Mathlib.Omega.{arith}
 use Rattle.plan_file.specs.declared.plan.Plan.{Plan}
-use Rattle.network.specs.declared.stage.Stage.the-variants.{Steps}
+use Rattle.stages.specs.declared.Stage.the-variants.{Steps}
 use Rattle.network_file.specs.Runs.{records}
 use Rattle.plan_file.specs.PlanFiles.{emptyPlan, withStep}
 use Rattle.plan_file.specs.Inputs.{planPart}

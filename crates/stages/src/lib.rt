@@ -1,6 +1,6 @@
 // Where reading stands in a file, and the table that says which record kinds may come there.
 ghost use mathlib.Core.Path.{_≡_};
-ghost use Rattle.network.specs.Stages.{nextStage, afterLast, stageNumber};
+ghost use Rattle.stages.specs.Stages.{nextStage, afterLast, stageNumber};
 
 pub enum Stage {
     Head,

@@ -3,10 +3,10 @@
 use mathlib.Core.Bool.{Bool, true, false}
 use Prim.Native.Nat.{ℕ}
 use lib.Dec.{eqb}
-use Rattle.network.specs.declared.stage.Stage.{Stage}
-use Rattle.network.specs.declared.stage.Stage.the-variants.{Head, Elements, Links, End, PlanHead, Steps, PlanEnd, Over}
-use Rattle.network.specs.declared.stage.Next.{Next}
-use Rattle.network.specs.declared.stage.Next.the-variants.{Go, Refused}
+use Rattle.stages.specs.declared.Stage.{Stage}
+use Rattle.stages.specs.declared.Stage.the-variants.{Head, Elements, Links, End, PlanHead, Steps, PlanEnd, Over}
+use Rattle.stages.specs.declared.Next.{Next}
+use Rattle.stages.specs.declared.Next.the-variants.{Go, Refused}
 
 -- the stages in their order: the rows of the table
 abbrev pub stageNumber : Stage → ℕ

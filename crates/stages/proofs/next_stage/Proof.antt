@@ -1,10 +1,10 @@
--- `network::stage::next_stage` gives what the definition says of every stage and kind: the table's rule, and refusal past it.
+-- `stages::next_stage` gives what the definition says of every stage and kind: the table's rule, and refusal past it.
 -- Assumes nothing.
 use native.Mathlib.Omega.{arith}
 use borrow.Author.Needs.{needs}
-use Rattle.network.proofs.Table.{row-small, entry, past, table}
-use Rattle.network.proofs.stage.next_stage.Statement.{statement}
-use Rattle.network.proofs.stage.next_stage.Tie as tie
+use Rattle.stages.proofs.Table.{row-small, entry, past, table}
+use Rattle.stages.proofs.next_stage.Statement.{statement}
+use Rattle.stages.proofs.next_stage.Tie as tie
 
 returns : tie.Need-returns
 returns c = past (c .before .args .stage) (c .before .args .kind) (omega arith)

@@ -1,9 +1,9 @@
--- `network::stage::after_last` moves on from a stage whose records are all read: each arm's equation on the stage, under `afterLast`.
+-- `stages::row_of` numbers the stages: each arm's equation on the stage, under `stageNumber`.
 -- Assumes nothing.
 use mathlib.Core.Path.{ap, sym}
-use Rattle.network.specs.Stages.{afterLast}
-use Rattle.network.proofs.stage.after_last.Statement.{statement}
-use Rattle.network.proofs.stage.after_last.Tie as tie
+use Rattle.stages.specs.Stages.{stageNumber}
+use Rattle.stages.proofs.row_of.Statement.{statement}
+use Rattle.stages.proofs.row_of.Tie as tie
 
 enum-told : tie.Need-enum-told
 enum-told c = c .match .keys1
@@ -30,31 +30,31 @@ enum-told-8 : tie.Need-enum-told-8
 enum-told-8 c = c .match .keys8
 
 returns : tie.Need-returns
-returns c = sym (ap afterLast (c .enum-told .given .1))
+returns c = sym (ap stageNumber (c .enum-told .given .1))
 
 returns-2 : tie.Need-returns-2
-returns-2 c = sym (ap afterLast (c .enum-told2 .given .1))
+returns-2 c = sym (ap stageNumber (c .enum-told2 .given .1))
 
 returns-3 : tie.Need-returns-3
-returns-3 c = sym (ap afterLast (c .enum-told3 .given .1))
+returns-3 c = sym (ap stageNumber (c .enum-told3 .given .1))
 
 returns-4 : tie.Need-returns-4
-returns-4 c = sym (ap afterLast (c .enum-told4 .given .1))
+returns-4 c = sym (ap stageNumber (c .enum-told4 .given .1))
 
 returns-5 : tie.Need-returns-5
-returns-5 c = sym (ap afterLast (c .enum-told5 .given .1))
+returns-5 c = sym (ap stageNumber (c .enum-told5 .given .1))
 
 returns-6 : tie.Need-returns-6
-returns-6 c = sym (ap afterLast (c .enum-told6 .given .1))
+returns-6 c = sym (ap stageNumber (c .enum-told6 .given .1))
 
 returns-7 : tie.Need-returns-7
-returns-7 c = sym (ap afterLast (c .enum-told7 .given .1))
+returns-7 c = sym (ap stageNumber (c .enum-told7 .given .1))
 
 returns-8 : tie.Need-returns-8
-returns-8 c = sym (ap afterLast (c .enum-told8 .given .1))
+returns-8 c = sym (ap stageNumber (c .enum-told8 .given .1))
 
-pub after-last-spec : {M : Type 1} → statement M
-after-last-spec =
+pub row-of-spec : {M : Type 1} → statement M
+row-of-spec =
     tie.close
     (tie.spec
     enum-told

@@ -10,11 +10,11 @@ use native.Mathlib.Omega.{arith}
 use lib.Dec.{T, eqb, eqb→eq, lit<}
 use lib.ListN.{getD}
 use borrow.Author.Tests.{ne-eqb}
-use Rattle.network.specs.declared.stage.Stage.{Stage}
-use Rattle.network.specs.declared.stage.Stage.the-variants.{Head, Elements, Links, End, PlanHead, Steps, PlanEnd, Over}
-use Rattle.network.specs.declared.stage.Next.{Next}
-use Rattle.network.specs.declared.stage.Next.the-variants.{Go, Refused}
-use Rattle.network.specs.Stages.{stageNumber, nextStage}
+use Rattle.stages.specs.declared.Stage.{Stage}
+use Rattle.stages.specs.declared.Stage.the-variants.{Head, Elements, Links, End, PlanHead, Steps, PlanEnd, Over}
+use Rattle.stages.specs.declared.Next.{Next}
+use Rattle.stages.specs.declared.Next.the-variants.{Go, Refused}
+use Rattle.stages.specs.Stages.{stageNumber, nextStage}
 
 abbrev both : Bool → Bool → Bool
 both true b = b
