@@ -1,0 +1,88 @@
+-- Document 01, "Feeding": spoiled, restorable and operable; and "The printed lines": fed, dark and lost.
+-- Assumes nothing.
+use mathlib.Core.Path.{_≡_}
+use mathlib.Core.Bool.{Bool, true, false, not, _&&_, _||_}
+use mathlib.Core.Logic.{_⊎_}
+use mathlib.Core.List.{List}
+use Prim.Native.Nat.{ℕ, _+_, _<_}
+use lib.Dec.{ltb}
+use lib.ListN.{length}
+use Rattle.feeding.specs.Below.{Member, Rising, anyTo, allTo, imp, gate, sumTo, those}
+use Rattle.feeding.specs.Networks.{Grid, Net}
+use Rattle.feeding.specs.Parts.{Config, touches, far, Joined, Live, joined?, live?}
+
+-- "An element is spoiled if fixed links alone join it to a faulty one, or it is faulty."
+pub record Spoiled (net : Net) (e : ℕ) : Type 0 where
+  pub fault : ℕ
+  pub below : fault < net .grid .E
+  pub faulty : net .grid .faulty fault ≡ true
+  pub joined : Joined (net .grid) (net .fixed) fault e
+
+-- "An element is restorable if it isn't spoiled and a path of links of any form or state, through unspoiled elements only, joins it to an
+-- unspoiled source. Such a source is itself restorable."
+pub data Restorable (net : Net) : ℕ → Type 0 where
+  itself : {s : ℕ} → s < net .grid .E → net .grid .source s ≡ true → ¬ Spoiled net s → Restorable net s
+  beside : {e : ℕ} (l : ℕ) → l < net .grid .K → touches (net .grid) l e ≡ true → ¬ Spoiled net e → Restorable net (far (net .grid) l e) → Restorable net e
+
+-- "dark and restorable in the starting configuration"
+pub record Waits (net : Net) (e : ℕ) : Type 0 where
+  pub dark : ¬ Live (net .grid) (net .startClosed) e
+  pub restorable : Restorable net e
+
+-- "A switch is operable if one of its ends is dark and restorable in the starting configuration."
+pub record Operable (net : Net) (l : ℕ) : Type 0 where
+  pub below : l < net .grid .K
+  pub switch : net .fixed l ≡ false
+  pub waits : Waits net (net .grid .endA l) ⊎ Waits net (net .grid .endB l)
+
+-- n switches are operable: a list by rising number has them all, and n entries
+pub record Operables (net : Net) (n : ℕ) : Type 0 where
+  pub list : List ℕ
+  pub rising : Rising list
+  pub only : (l : ℕ) → Member l list → Operable net l
+  pub all : (l : ℕ) → Operable net l → Member l list
+  pub count : n ≡ length list
+
+-- "every restorable element is live"
+abbrev pub Restored : Net → Config → Type 0
+Restored net c = (e : ℕ) → e < net .grid .E → Restorable net e → Live (net .grid) c e
+
+-- ---- what computes
+
+unfoldable pub spoiled? : Net → ℕ → Bool
+spoiled? net e = anyTo (net .grid .E) (λ f. net .grid .faulty f && joined? (net .grid) (net .fixed) f e)
+
+-- a link between unspoiled elements
+unfoldable pub clean : Net → Config
+clean net l = not (spoiled? net (net .grid .endA l)) && not (spoiled? net (net .grid .endB l))
+
+unfoldable pub restorable? : Net → ℕ → Bool
+restorable? net e =
+    not (spoiled? net e)
+    && anyTo (net .grid .E) (λ s. (net .grid .source s && not (spoiled? net s)) && joined? (net .grid) (clean net) s e)
+
+unfoldable pub waits? : Net → ℕ → Bool
+waits? net e = restorable? net e && not (live? (net .grid) (net .startClosed) e)
+
+unfoldable pub operable? : Net → ℕ → Bool
+operable? net l = ltb l (net .grid .K) && (not (net .fixed l) && (waits? net (net .grid .endA l) || waits? net (net .grid .endB l)))
+
+-- the operable switches, by rising number
+unfoldable pub operables : Net → List ℕ
+operables net = those (net .grid .K) (operable? net)
+
+unfoldable pub restored? : Net → Config → Bool
+restored? net c = allTo (net .grid .E) (λ e. imp (restorable? net e) (live? (net .grid) c e))
+
+-- "Fed sums the loads of elements live, dark those of restorable elements then dark, lost those of elements that aren't restorable."
+unfoldable pub fedLoad : Net → Config → ℕ
+fedLoad net c = sumTo (net .grid .E) (λ e. gate (live? (net .grid) c e) (net .grid .load e))
+
+unfoldable pub darkLoad : Net → Config → ℕ
+darkLoad net c = sumTo (net .grid .E) (λ e. gate (restorable? net e && not (live? (net .grid) c e)) (net .grid .load e))
+
+unfoldable pub lostLoad : Net → ℕ
+lostLoad net = sumTo (net .grid .E) (λ e. gate (not (restorable? net e)) (net .grid .load e))
+
+unfoldable pub totalLoad : Grid → ℕ
+totalLoad g = sumTo (g .E) (g .load)

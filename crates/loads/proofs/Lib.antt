@@ -1,0 +1,6 @@
+pub mod Chains
+pub mod Lending
+pub mod Rounds
+pub mod Same
+pub mod Sources
+pub mod Turns

@@ -1,0 +1,413 @@
+-- A walk over an element's own ends adds up what its links carry: between own ends nothing is added, and a link that leads on has one own end.
+-- Assumes nothing.
+use Prim.Native.Nat.{ℕ, zero, suc, _+_, _*_, _/_, _≤_, _<_, min}
+use mathlib.Core.Path.{_≡_, refl, sym, ap, _∙_, subst}
+use mathlib.Core.Bool.{Bool, true, false, not, cond, _&&_, _||_}
+use lib.Dec.{eqb, leb}
+use borrow.Author.Tests.{eqb-true, eqb-false, eq-eqb, ne-eqb, lt-ltb, le-leb, lt-leb}
+use native.Mathlib.Omega.{arith}
+use Rattle.feeding.specs.Below.{gate, sumTo, leastTo}
+use Rattle.feeding.specs.Networks.{Grid, Formed}
+use Rattle.feeding.specs.Parts.{Config, touches, far}
+use Rattle.feeding.specs.Loads.{leads, elementLoad, linkLoad, above, elementOver, linkOver}
+use Rattle.feeding.proofs.Below.{and-both}
+use Rattle.feeding.proofs.Totals.{leastTo-top}
+use Rattle.loads.specs.Ends.{endAt, ownEnd}
+use Rattle.loads.specs.Walks.{lowerOver, elementCarried, linkCarried}
+use Rattle.loads.proofs.Chains.{end-first, end-second, own, own-below, own-at, own-past}
+use Rattle.loads.proofs.Chains.{ownEnd-le, ownEnd-ge, ownEnd-has, ownEnd-none, ownEnd-twice}
+
+-- ---- the lower of two numbers, where the load is above the capacity
+
+pub lower-within : (e x cap over : ℕ) → x ≤ cap → lowerOver e x cap over ≡ over
+unfolding lowerOver
+lower-within e x cap over h = rw (le-leb x cap h, lowerOver)
+
+pub lower-above : (e x cap over : ℕ) → cap < x → lowerOver e x cap over ≡ min e over
+unfolding lowerOver
+lower-above e x cap over h = rw (lt-leb x cap h, lowerOver)
+
+-- ---- sums and least values over gaps and pairs
+
+pub sumTo-more : (f : ℕ → ℕ) (n : ℕ) → sumTo (suc n) f ≡ sumTo n f + f n
+unfolding sumTo
+sumTo-more f n = refl
+
+pub leastTo-more : (z : ℕ) (f : ℕ → ℕ) (n : ℕ) → leastTo (suc n) z f ≡ min (leastTo n z f) (f n)
+unfolding leastTo
+leastTo-more z f n = refl
+
+pub sumTo-no : (f : ℕ → ℕ) → sumTo 0 f ≡ 0
+unfolding sumTo
+sumTo-no f = refl
+
+pub leastTo-no : (z : ℕ) (f : ℕ → ℕ) → leastTo 0 z f ≡ z
+unfolding leastTo
+leastTo-no z f = refl
+
+pub sumTo-gap : (f : ℕ → ℕ) (i j : ℕ) → i ≤ j → ((k : ℕ) → i ≤ k → k < j → f k ≡ 0) → sumTo j f ≡ sumTo i f
+sumTo-gap f i zero h z = let q : 0 ≡ i = omega arith in ap (λ n. sumTo n f) q
+sumTo-gap f i (suc j) h z = go (λ k. sumTo-gap f i j k (λ l a b. z l a (omega arith))) (eqb (suc j) i) refl
+  where
+    go : (i ≤ j → sumTo j f ≡ sumTo i f) → (t : Bool) → eqb (suc j) i ≡ t → sumTo (suc j) f ≡ sumTo i f
+    go ih true t = ap (λ n. sumTo n f) (eqb-true (suc j) i t)
+    go ih false t = omega (arith, sumTo-more f j, ih (omega (arith, eqb-false (suc j) i t)), z j (omega (arith, eqb-false (suc j) i t)) (omega arith))
+
+pub leastTo-gap : (z : ℕ) (f : ℕ → ℕ) (i j : ℕ) → i ≤ j → ((k : ℕ) → i ≤ k → k < j → z ≤ f k) → leastTo j z f ≡ leastTo i z f
+leastTo-gap z f i zero h w = let q : 0 ≡ i = omega arith in ap (λ n. leastTo n z f) q
+leastTo-gap z f i (suc j) h w = go (λ k. leastTo-gap z f i j k (λ l a b. w l a (omega arith))) (eqb (suc j) i) refl
+  where
+    go : (i ≤ j → leastTo j z f ≡ leastTo i z f) → (t : Bool) → eqb (suc j) i ≡ t → leastTo (suc j) z f ≡ leastTo i z f
+    go ih true t = ap (λ n. leastTo n z f) (eqb-true (suc j) i t)
+    go ih false t =
+        let k : i ≤ j = omega (arith, eqb-false (suc j) i t) in
+        omega (arith, leastTo-more z f j, ih k, w j k (omega arith), leastTo-top j z f)
+
+pub sumTo-grows : (f : ℕ → ℕ) (i j : ℕ) → i ≤ j → sumTo i f ≤ sumTo j f
+sumTo-grows f i zero h = let q : i ≡ 0 = omega arith in rw q (omega arith)
+sumTo-grows f i (suc j) h = go (λ k. sumTo-grows f i j k) (eqb (suc j) i) refl
+  where
+    go : (i ≤ j → sumTo i f ≤ sumTo j f) → (t : Bool) → eqb (suc j) i ≡ t → sumTo i f ≤ sumTo (suc j) f
+    go ih true t = omega (arith, ap (λ n. sumTo n f) (eqb-true (suc j) i t))
+    go ih false t = omega (arith, sumTo-more f j, ih (omega (arith, eqb-false (suc j) i t)))
+
+pub sumTo-pairs : (f h : ℕ → ℕ) (n : ℕ) → ((l : ℕ) → l < n → f (2 * l) + f (2 * l + 1) ≡ h l) → sumTo (2 * n) f ≡ sumTo n h
+sumTo-pairs f h zero p = sumTo-no f ∙ sym (sumTo-no h)
+sumTo-pairs f h (suc n) p =
+    let two : 2 * suc n ≡ suc (suc (2 * n)) = omega arith in
+    let one : suc (2 * n) ≡ 2 * n + 1 = omega arith in
+    omega (
+      arith,
+      ap (λ m. sumTo m f) two,
+      sumTo-more f (suc (2 * n)),
+      sumTo-more f (2 * n),
+      ap f one,
+      sumTo-more h n,
+      sumTo-pairs f h n (λ l k. p l (omega arith)),
+      p n (omega arith),
+    )
+
+pub leastTo-pairs : (z : ℕ) (f h : ℕ → ℕ) (n : ℕ) → ((l : ℕ) → l < n → min (f (2 * l)) (f (2 * l + 1)) ≡ h l) → leastTo (2 * n) z f ≡ leastTo n z h
+leastTo-pairs z f h zero p = leastTo-no z f ∙ sym (leastTo-no z h)
+leastTo-pairs z f h (suc n) p =
+    let two : 2 * suc n ≡ suc (suc (2 * n)) = omega arith in
+    let one : suc (2 * n) ≡ 2 * n + 1 = omega arith in
+    omega (
+      arith,
+      ap (λ m. leastTo m z f) two,
+      leastTo-more z f (suc (2 * n)),
+      leastTo-more z f (2 * n),
+      ap f one,
+      leastTo-more z h n,
+      leastTo-pairs z f h n (λ l k. p l (omega arith)),
+      p n (omega arith),
+    )
+
+-- ---- what an own end adds
+
+-- x where the test passed, else z
+abbrev pub orElse : ℕ → Bool → ℕ → ℕ
+orElse z b x = elim b [ true ↦ x | false ↦ z ]
+
+-- the end i is at e, and its link leads on
+unfoldable pub leadEnd : Grid → Config → (e via : ℕ) → ℕ → Bool
+leadEnd g c e via i = own (g .endA) (g .endB) (g .K) e i && (c (i / 2) && not (eqb (i / 2) via))
+
+unfoldable pub endLoad : Grid → Config → (d e via : ℕ) → ℕ → ℕ
+endLoad g c d e via i = gate (leadEnd g c e via i) (linkLoad g c d (i / 2) e)
+
+unfoldable pub endOver : Grid → Config → (d e via : ℕ) → ℕ → ℕ
+endOver g c d e via i = orElse (g .E) (leadEnd g c e via i) (linkOver g c d (i / 2) e)
+
+-- one of the two ends at most passes
+pair-gate : (p q r s : Bool) (x : ℕ) → (p ≡ true → q ≡ true → ⊥) → gate (p && (r && s)) x + gate (q && (r && s)) x ≡ gate (r && ((p || q) && s)) x
+pair-gate true true r s x h = absurd (h refl refl)
+pair-gate true false true true x h = omega arith
+pair-gate true false true false x h = omega arith
+pair-gate true false false s x h = omega arith
+pair-gate false true true true x h = omega arith
+pair-gate false true true false x h = omega arith
+pair-gate false true false s x h = omega arith
+pair-gate false false true s x h = omega arith
+pair-gate false false false s x h = omega arith
+
+pair-low : (z : ℕ) (p q r s : Bool) (x : ℕ) → x ≤ z → (p ≡ true → q ≡ true → ⊥)
+    → min (orElse z (p && (r && s)) x) (orElse z (q && (r && s)) x) ≡ orElse z (r && ((p || q) && s)) x
+pair-low z true true r s x k h = absurd (h refl refl)
+pair-low z true false true true x k h = omega arith
+pair-low z true false true false x k h = omega arith
+pair-low z true false false s x k h = omega arith
+pair-low z false true true true x k h = omega arith
+pair-low z false true true false x k h = omega arith
+pair-low z false true false s x k h = omega arith
+pair-low z false false true s x k h = omega arith
+pair-low z false false false s x k h = omega arith
+
+above-top : (g : Grid) (e x : ℕ) → e ≤ g .E → above g e x ≤ g .E
+unfolding above
+above-top g e x h = go (leb x (g .capacity e))
+  where
+    go : (t : Bool) → elim t [ true ↦ g .E | false ↦ e ] ≤ g .E
+    go true = omega arith
+    go false = h
+
+module _ (g : Grid) (c : Config) where
+  pub load-none : (e via : ℕ) → elementLoad g c zero e via ≡ g .load e
+  unfolding elementLoad
+  load-none e via = refl
+
+  pub load-more : (d e via : ℕ) → elementLoad g c (suc d) e via ≡ g .load e + sumTo (g .K) (λ l. gate (leads g c e via l) (linkLoad g c d l e))
+  unfolding elementLoad
+  load-more d e via = refl
+
+  pub over-none : (e via : ℕ) → elementOver g c zero e via ≡ above g e (g .load e)
+  unfolding elementOver elementLoad
+  over-none e via = refl
+
+  pub over-more : (d e via : ℕ)
+      → elementOver g c (suc d) e via
+      ≡ min (above g e (elementLoad g c (suc d) e via)) (leastTo (g .K) (g .E) (λ l. orElse (g .E) (leads g c e via l) (linkOver g c d l e)))
+  unfolding elementOver
+  over-more d e via = refl
+
+  -- no number found is above E
+  pub far-below : Formed g → (l e : ℕ) → l < g .K → far g l e < g .E
+  unfolding far
+  far-below formed l e k = go (eqb (g .endA l) e)
+    where
+      go : (t : Bool) → cond t (g .endB l) (g .endA l) < g .E
+      go true = formed .endB-lt l k
+      go false = formed .endA-lt l k
+
+  over-top : (d e via : ℕ) → e < g .E → elementOver g c d e via ≤ g .E
+  over-top zero e via h = omega (arith, over-none e via, above-top g e (g .load e) (omega arith))
+  over-top (suc d) e via h = omega (
+    arith,
+    over-more d e via,
+    leastTo-top (g .K) (g .E) (λ l. orElse (g .E) (leads g c e via l) (linkOver g c d l e)),
+  )
+
+  link-top : Formed g → (d l e : ℕ) → l < g .K → linkOver g c d l e ≤ g .E
+  unfolding linkOver
+  link-top formed zero l e k = omega arith
+  link-top formed (suc d) l e k = over-top d (far g l e) l (far-below formed l e k)
+
+  lead-first : (e via l : ℕ) → l < g .K → leadEnd g c e via (2 * l) ≡ (eqb (g .endA l) e && (c l && not (eqb l via)))
+  unfolding leadEnd own
+  lead-first e via l k =
+      let half : 2 * l / 2 ≡ l = omega arith in
+      rw (lt-ltb (2 * l) (2 * g .K) (omega arith), half, end-first (g .endA) (g .endB) l)
+
+  lead-second : (e via l : ℕ) → l < g .K → leadEnd g c e via (2 * l + 1) ≡ (eqb (g .endB l) e && (c l && not (eqb l via)))
+  unfolding leadEnd own
+  lead-second e via l k =
+      let half : (2 * l + 1) / 2 ≡ l = omega arith in
+      rw (lt-ltb (2 * l + 1) (2 * g .K) (omega arith), half, end-second (g .endA) (g .endB) l)
+
+  lead-off : (e via i : ℕ) → own (g .endA) (g .endB) (g .K) e i ≡ false → leadEnd g c e via i ≡ false
+  unfolding leadEnd
+  lead-off e via i h = rw h
+
+  not-both : Formed g → (e l : ℕ) → l < g .K → eqb (g .endA l) e ≡ true → eqb (g .endB l) e ≡ true → ⊥
+  not-both formed e l k p q = formed .differ l k (eqb-true _ e p ∙ sym (eqb-true _ e q))
+
+module _ (g : Grid) (formed : Formed g) (c : Config) (d e via : ℕ) where
+  first-half : (l : ℕ) → 2 * l / 2 ≡ l
+  first-half l = omega arith
+
+  second-half : (l : ℕ) → (2 * l + 1) / 2 ≡ l
+  second-half l = omega arith
+
+  pair-load : (l : ℕ) → l < g .K → endLoad g c d e via (2 * l) + endLoad g c d e via (2 * l + 1) ≡ gate (leads g c e via l) (linkLoad g c d l e)
+  unfolding endLoad leads touches
+  pair-load l k = rw (lead-first g c e via l k, lead-second g c e via l k, first-half l, second-half l)
+      (pair-gate (eqb (g .endA l) e) (eqb (g .endB l) e) (c l) (not (eqb l via)) (linkLoad g c d l e) (not-both g c formed e l k))
+
+  pair-over : (l : ℕ) → l < g .K
+      → min (endOver g c d e via (2 * l)) (endOver g c d e via (2 * l + 1)) ≡ orElse (g .E) (leads g c e via l) (linkOver g c d l e)
+  unfolding endOver leads touches
+  pair-over l k = rw (lead-first g c e via l k, lead-second g c e via l k, first-half l, second-half l)
+      (pair-low (g .E) (eqb (g .endA l) e) (eqb (g .endB l) e) (c l) (not (eqb l via)) (linkOver g c d l e) (link-top g c formed d l e k)
+      (not-both g c formed e l k))
+
+  load-off : (i : ℕ) → own (g .endA) (g .endB) (g .K) e i ≡ false → endLoad g c d e via i ≡ 0
+  unfolding endLoad
+  load-off i h = rw (lead-off g c e via i h)
+
+  over-off : (i : ℕ) → own (g .endA) (g .endB) (g .K) e i ≡ false → endOver g c d e via i ≡ g .E
+  unfolding endOver
+  over-off i h = rw (lead-off g c e via i h)
+
+  -- over all ends it is what the links add
+  all-loads : g .K ≤ 96 → g .load e + sumTo 192 (endLoad g c d e via) ≡ elementLoad g c (suc d) e via
+  all-loads fit = omega (
+    arith,
+    sumTo-gap (endLoad g c d e via) (2 * g .K) 192 (omega arith) (λ i a b. load-off i (own-past (g .endA) (g .endB) (g .K) e i a)),
+    sumTo-pairs (endLoad g c d e via) (λ l. gate (leads g c e via l) (linkLoad g c d l e)) (g .K) pair-load,
+    load-more g c d e via,
+  )
+
+  all-lows : g .K ≤ 96
+      → leastTo 192 (g .E) (endOver g c d e via) ≡ leastTo (g .K) (g .E) (λ l. orElse (g .E) (leads g c e via l) (linkOver g c d l e))
+  all-lows fit =
+      leastTo-gap (g .E) (endOver g c d e via) (2 * g .K) 192 (omega arith)
+      (λ i a b. omega (arith, over-off i (own-past (g .endA) (g .endB) (g .K) e i a)))
+      ∙ leastTo-pairs (g .E) (endOver g c d e via) (λ l. orElse (g .E) (leads g c e via l) (linkOver g c d l e)) (g .K) pair-over
+
+-- ---- the walk
+
+-- what is added up, and the lowest found, once the ends below j are gone by; j is an own end of e, or 192
+pub record Walked (g : Grid) (c : Config) (d e via sum over j : ℕ) : Type 0 where
+  pub at-most : j ≤ 192
+  pub chain : ownEnd (g .endA) (g .endB) (g .K) e j ≡ j
+  pub sums : sum ≡ g .load e + sumTo j (endLoad g c d e via)
+  pub lows : over ≡ leastTo j (g .E) (endOver g c d e via)
+
+module _ (g : Grid) (formed : Formed g) (c : Config) (d e via : ℕ) where
+  -- from i on to the next own end
+  walked-gap : (i j sum over : ℕ) → i ≤ 192 → j ≡ ownEnd (g .endA) (g .endB) (g .K) e i → sum ≡ g .load e + sumTo i (endLoad g c d e via)
+      → over ≡ leastTo i (g .E) (endOver g c d e via) → Walked g c d e via sum over j
+  walked-gap i j sum over k q s o = record {
+    at-most = omega (arith, ownEnd-le (g .endA) (g .endB) (g .K) e i k);
+    chain = ap (ownEnd (g .endA) (g .endB) (g .K) e) q ∙ ownEnd-twice (g .endA) (g .endB) (g .K) e i k ∙ sym q;
+    sums = omega (arith, sumTo-gap (endLoad g c d e via) i j up (λ m a b. load-off g formed c d e via m (none m a b)));
+    lows = o ∙ sym (leastTo-gap (g .E) (endOver g c d e via) i j up (λ m a b. omega (arith, over-off g formed c d e via m (none m a b))));
+  }
+    where
+      up : i ≤ j
+      up = omega (arith, ownEnd-ge (g .endA) (g .endB) (g .K) e i)
+
+      none : (m : ℕ) → i ≤ m → m < j → own (g .endA) (g .endB) (g .K) e m ≡ false
+      none m a b = ownEnd-none (g .endA) (g .endB) (g .K) e i m a (omega arith)
+
+  pub walked-start : (j : ℕ) → j ≡ ownEnd (g .endA) (g .endB) (g .K) e 0 → Walked g c d e via (g .load e) (g .E) j
+  walked-start j q = walked-gap 0 j (g .load e) (g .E) (omega arith) q (omega (arith, sumTo-no (endLoad g c d e via)))
+      (sym (leastTo-no (g .E) (endOver g c d e via)))
+
+  module _ (sum over j : ℕ) (w : Walked g c d e via sum over j) (k : j < 192) where
+    walked-own : own (g .endA) (g .endB) (g .K) e j ≡ true
+    walked-own = subst (λ z. own (g .endA) (g .endB) (g .K) e z ≡ true) (w .chain)
+        (ownEnd-has (g .endA) (g .endB) (g .K) e j (w .at-most) (omega (arith, w .chain)))
+
+    pub walked-below : j < 2 * g .K
+    walked-below = own-below (g .endA) (g .endB) (g .K) e j walked-own
+
+    pub walked-near : endAt (g .endA) (g .endB) j ≡ e
+    walked-near = own-at (g .endA) (g .endB) (g .K) e j walked-own
+
+    lead-on : c (j / 2) ≡ true → (j / 2 ≡ via → ⊥) → leadEnd g c e via j ≡ true
+    unfolding leadEnd
+    lead-on h n = and-both (own (g .endA) (g .endB) (g .K) e j) _ walked-own (and-both (c (j / 2)) _ h (ap not (ne-eqb (j / 2) via n)))
+
+    load-on : c (j / 2) ≡ true → (j / 2 ≡ via → ⊥) → endLoad g c d e via j ≡ linkLoad g c d (j / 2) e
+    unfolding endLoad
+    load-on h n = rw (lead-on h n)
+
+    over-on : c (j / 2) ≡ true → (j / 2 ≡ via → ⊥) → endOver g c d e via j ≡ linkOver g c d (j / 2) e
+    unfolding endOver
+    over-on h n = rw (lead-on h n)
+
+    -- the link of j leads on: what it carries is added
+    pub walked-on : (j′ : ℕ) → c (j / 2) ≡ true → (j / 2 ≡ via → ⊥) → j′ ≡ ownEnd (g .endA) (g .endB) (g .K) e (suc j)
+        → Walked g c d e via (sum + linkLoad g c d (j / 2) e) (min over (linkOver g c d (j / 2) e)) j′
+    walked-on j′ h n q = walked-gap (suc j) j′ _ _ (omega arith) q
+        (omega (arith, w .sums, sumTo-more (endLoad g c d e via) j, load-on h n))
+        (omega (arith, w .lows, leastTo-more (g .E) (endOver g c d e via) j, over-on h n))
+
+    lead-not : (c (j / 2) && not (eqb (j / 2) via)) ≡ false → leadEnd g c e via j ≡ false
+    unfolding leadEnd
+    lead-not h = rw h (go (own (g .endA) (g .endB) (g .K) e j))
+      where
+        go : (t : Bool) → (t && false) ≡ false
+        go true = refl
+        go false = refl
+
+    load-not : (c (j / 2) && not (eqb (j / 2) via)) ≡ false → endLoad g c d e via j ≡ 0
+    unfolding endLoad
+    load-not h = rw (lead-not h)
+
+    over-not : (c (j / 2) && not (eqb (j / 2) via)) ≡ false → endOver g c d e via j ≡ g .E
+    unfolding endOver
+    over-not h = rw (lead-not h)
+
+    walked-past : (j′ : ℕ) → (c (j / 2) && not (eqb (j / 2) via)) ≡ false → j′ ≡ ownEnd (g .endA) (g .endB) (g .K) e (suc j)
+        → Walked g c d e via sum over j′
+    walked-past j′ h q = walked-gap (suc j) j′ _ _ (omega arith) q
+        (omega (arith, w .sums, sumTo-more (endLoad g c d e via) j, load-not h))
+        (omega (arith, w .lows, leastTo-more (g .E) (endOver g c d e via) j, over-not h, leastTo-top j (g .E) (endOver g c d e via)))
+
+    -- it is open, or the one come by: nothing is added
+    pub walked-open : (j′ : ℕ) → c (j / 2) ≡ false → j′ ≡ ownEnd (g .endA) (g .endB) (g .K) e (suc j) → Walked g c d e via sum over j′
+    walked-open j′ h q = walked-past j′ (rw h) q
+
+    pub walked-via : (j′ : ℕ) → j / 2 ≡ via → j′ ≡ ownEnd (g .endA) (g .endB) (g .K) e (suc j) → Walked g c d e via sum over j′
+    walked-via j′ h q = walked-past j′ (go (c (j / 2)) (eq-eqb (j / 2) via h)) q
+      where
+        go : (t : Bool) → eqb (j / 2) via ≡ true → (t && not (eqb (j / 2) via)) ≡ false
+        go true p = rw p
+        go false p = refl
+
+    -- no partial sum is above the whole
+    pub walked-room : g .K ≤ 96 → c (j / 2) ≡ true → (j / 2 ≡ via → ⊥) → sum + linkLoad g c d (j / 2) e ≤ elementLoad g c (suc d) e via
+    walked-room fit h n = omega (
+      arith,
+      w .sums,
+      load-on h n,
+      sumTo-more (endLoad g c d e via) j,
+      sumTo-grows (endLoad g c d e via) (suc j) 192 (omega arith),
+      all-loads g formed c d e via fit,
+    )
+
+  module _ (sum over j : ℕ) (w : Walked g c d e via sum over j) (k : 192 ≤ j) (fit : g .K ≤ 96) where
+    ended : j ≡ 192
+    ended = omega (arith, w .at-most)
+
+    pub walked-load : sum ≡ elementLoad g c (suc d) e via
+    walked-load = w .sums ∙ ap (λ z. g .load e + sumTo z (endLoad g c d e via)) ended ∙ all-loads g formed c d e via fit
+
+    walked-low : over ≡ leastTo (g .K) (g .E) (λ l. orElse (g .E) (leads g c e via l) (linkOver g c d l e))
+    walked-low = w .lows ∙ ap (λ z. leastTo z (g .E) (endOver g c d e via)) ended ∙ all-lows g formed c d e via fit
+
+    lower-is : (x o : ℕ) → o ≤ g .E → lowerOver e x (g .capacity e) o ≡ min (above g e x) o
+    unfolding lowerOver above
+    lower-is x o h = go (leb x (g .capacity e))
+      where
+        go : (t : Bool) → orElse (min e o) t o ≡ min (orElse e t (g .E)) o
+        go true = omega arith
+        go false = refl
+
+    walked-over : lowerOver e sum (g .capacity e) over ≡ elementOver g c (suc d) e via
+    walked-over =
+        lower-is sum over (omega (arith, w .lows, leastTo-top j (g .E) (endOver g c d e via)))
+        ∙ rw (walked-load, walked-low) (sym (over-more g c d e via))
+
+    pub walked-done : record { load = sum; over = lowerOver e sum (g .capacity e) over } ≡ elementCarried g c (suc d) e via
+    unfolding elementCarried
+    walked-done = cc (walked-load, walked-over)
+
+-- ---- no depth left, and the link's turn
+
+none-same : (g : Grid) (e x : ℕ) → e < g .E → lowerOver e x (g .capacity e) (g .E) ≡ above g e x
+unfolding lowerOver above
+none-same g e x k = go (leb x (g .capacity e))
+  where
+    go : (t : Bool) → orElse (min e (g .E)) t (g .E) ≡ orElse e t (g .E)
+    go true = refl
+    go false = omega arith
+
+pub element-none : (g : Grid) (c : Config) (e via : ℕ) → e < g .E
+    → record { load = g .load e; over = lowerOver e (g .load e) (g .capacity e) (g .E) } ≡ elementCarried g c zero e via
+unfolding elementCarried
+element-none g c e via k = cc (load-none g c e via, over-none g c e via, none-same g e (g .load e) k)
+
+pub link-none : (g : Grid) (c : Config) (l e : ℕ) → record { load = 0; over = g .E } ≡ linkCarried g c zero l e
+unfolding linkCarried linkLoad linkOver
+link-none g c l e = refl
+
+pub link-more : (g : Grid) (c : Config) (d l e : ℕ) → elementCarried g c d (far g l e) l ≡ linkCarried g c (suc d) l e
+unfolding linkCarried linkLoad linkOver elementCarried
+link-more g c d l e = refl
+
+pub link-load : (g : Grid) (c : Config) (d l e : ℕ) → linkLoad g c (suc d) l e ≡ elementLoad g c d (far g l e) l
+unfolding linkLoad
+link-load g c d l e = refl

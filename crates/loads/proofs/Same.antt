@@ -1,0 +1,288 @@
+-- A walk sees of a grid only its ends, loads and capacities below its bounds, so over a network's chained ends it finds what the network's grid has.
+-- Assumes nothing.
+use Prim.Native.Nat.{ℕ, zero, suc, _+_, _-_, _*_, _/_, _%_, _≤_, _<_, _^_}
+use mathlib.Core.Path.{_≡_, refl, sym, ap, _∙_}
+use mathlib.Core.Bool.{Bool, true, false, _&&_}
+use mathlib.Core.List.{List}
+use lib.Dec.{eqb, ltb, leb}
+use lib.ListN.{length}
+use borrow.Author.Tests.{eqb-true, eqb-false, lt-ltb, ltb-true}
+use native.Mathlib.Omega.{arith}
+use Rattle.feeding.specs.Below.{gate, sumTo, leastTo, lowestFrom}
+use Rattle.feeding.specs.Networks.{Grid, Formed, at, gridOf}
+use Rattle.feeding.specs.Parts.{Config, touches, far, sound?}
+use Rattle.feeding.specs.Loads.{leads, elementLoad, linkLoad, above, elementOver, linkOver, lowestOver}
+use Rattle.feeding.specs.Restoration.{totalLoad}
+use Rattle.feeding.proofs.Below.{sumTo-ext}
+use Rattle.feeding.proofs.Forest.{Bridges}
+use Rattle.feeding.proofs.Hanging.{load-at-most}
+use Rattle.feeding.proofs.Lows.{length-tabulate, at-tabulate}
+use Rattle.feeding.proofs.Walk.{start}
+use Rattle.loads.specs.Ends.{TwoEnds, endAt, farAt, ownEnd, ownEnds}
+use Rattle.loads.specs.Walks.{endsA, endsB, walkGrid, Lent, Carries, overPlace}
+use Rattle.loads.specs.declared.OwnEnds.{OwnEnds}
+use Rattle.loads.proofs.Chains.{lowestFrom-in, lowestFrom-out, lowestFrom-stop, end-even, end-odd, end-first, end-second, own, ownEnd-is}
+use Rattle.loads.proofs.Rounds.{orElse, leastTo-no, leastTo-more, sumTo-no, sumTo-more, load-none, load-more, over-none, over-more, far-below}
+
+-- ---- equal values give equal results
+
+pub leastTo-ext : (n z : ℕ) (f h : ℕ → ℕ) → ((l : ℕ) → l < n → f l ≡ h l) → leastTo n z f ≡ leastTo n z h
+leastTo-ext zero z f h p = leastTo-no z f ∙ sym (leastTo-no z h)
+leastTo-ext (suc n) z f h p = omega (arith, leastTo-more z f n, leastTo-more z h n, leastTo-ext n z f h (λ l k. p l (omega arith)), p n (omega arith))
+
+pub lowestFrom-ext : (n i : ℕ) (f h : ℕ → Bool) → ((j : ℕ) → f j ≡ h j) → lowestFrom n i f ≡ lowestFrom n i h
+lowestFrom-ext zero i f h p = lowestFrom-stop i f ∙ sym (lowestFrom-stop i h)
+lowestFrom-ext (suc n) i f h p = go (lowestFrom-ext n (suc i) f h p) (f i) refl
+  where
+    go : lowestFrom n (suc i) f ≡ lowestFrom n (suc i) h → (t : Bool) → f i ≡ t → lowestFrom (suc n) i f ≡ lowestFrom (suc n) i h
+    go ih true t = lowestFrom-in n i f t ∙ sym (lowestFrom-in n i h (sym (p i) ∙ t))
+    go ih false t = lowestFrom-out n i f t ∙ ih ∙ sym (lowestFrom-out n i h (sym (p i) ∙ t))
+
+module _ (a a′ b b′ : ℕ → ℕ) (n : ℕ) (p : (l : ℕ) → l < n → a l ≡ a′ l) (q : (l : ℕ) → l < n → b l ≡ b′ l) where
+  pub endAt-ext : (j : ℕ) → j < 2 * n → endAt a b j ≡ endAt a′ b′ j
+  unfolding endAt
+  endAt-ext j k = go (eqb (j % 2) 0)
+    where
+      go : (t : Bool) → orElse (b (j / 2)) t (a (j / 2)) ≡ orElse (b′ (j / 2)) t (a′ (j / 2))
+      go true = p (j / 2) (omega arith)
+      go false = q (j / 2) (omega arith)
+
+  own-ext : (e j : ℕ) → own a b n e j ≡ own a′ b′ n e j
+  unfolding own
+  own-ext e j = go (ltb j (2 * n)) refl
+    where
+      go : (t : Bool) → ltb j (2 * n) ≡ t → (t && eqb (endAt a b j) e) ≡ (t && eqb (endAt a′ b′ j) e)
+      go true t = rw (endAt-ext j (ltb-true j (2 * n) t))
+      go false t = refl
+
+  pub ownEnd-ext : (e i : ℕ) → ownEnd a b n e i ≡ ownEnd a′ b′ n e i
+  ownEnd-ext e i = ownEnd-is a b n e i ∙ lowestFrom-ext (192 - i) i (own a b n e) (own a′ b′ n e) (own-ext e) ∙ sym (ownEnd-is a′ b′ n e i)
+
+-- ---- two grids that a walk can't tell apart
+
+pub record Alike (g g′ : Grid) : Type 0 where
+  pub elements : g .E ≡ g′ .E
+  pub links : g .K ≡ g′ .K
+  pub loads : (e : ℕ) → e < g .E → g .load e ≡ g′ .load e
+  pub capacities : (e : ℕ) → e < g .E → g .capacity e ≡ g′ .capacity e
+  pub ends-a : (l : ℕ) → l < g .K → g .endA l ≡ g′ .endA l
+  pub ends-b : (l : ℕ) → l < g .K → g .endB l ≡ g′ .endB l
+
+module _ (g g′ : Grid) (formed : Formed g) (same : Alike g g′) (c c′ : Config) (agree : (l : ℕ) → l < g .K → c l ≡ c′ l) where
+  leads-alike : (e via l : ℕ) → l < g .K → leads g c e via l ≡ leads g′ c′ e via l
+  unfolding leads touches
+  leads-alike e via l k = rw (agree l k, same .ends-a l k, same .ends-b l k)
+
+  far-alike : (l e : ℕ) → l < g .K → far g l e ≡ far g′ l e
+  unfolding far
+  far-alike l e k = rw (same .ends-a l k, same .ends-b l k)
+
+  above-alike : (e x x′ : ℕ) → e < g .E → x ≡ x′ → above g e x ≡ above g′ e x′
+  unfolding above
+  above-alike e x x′ k q =
+      let test : leb x (g .capacity e) ≡ leb x′ (g′ .capacity e) = rw (q, same .capacities e k) in
+      ap (λ (t : Bool). orElse e t (g .E)) test ∙ ap (λ z. orElse e (leb x′ (g′ .capacity e)) z) (same .elements)
+
+  mutual
+    unfolding linkLoad
+
+    pub elementLoad-alike : (d e via : ℕ) → e < g .E → elementLoad g c d e via ≡ elementLoad g′ c′ d e via
+    elementLoad-alike zero e via k = load-none g c e via ∙ same .loads e k ∙ sym (load-none g′ c′ e via)
+    elementLoad-alike (suc d) e via k = omega (
+      arith,
+      load-more g c d e via,
+      load-more g′ c′ d e via,
+      same .loads e k,
+      sumTo-ext (g .K) (λ l. gate (leads g c e via l) (linkLoad g c d l e)) (λ l. gate (leads g′ c′ e via l) (linkLoad g′ c′ d l e))
+          (λ l kl. rw (leads-alike e via l kl, linkLoad-alike d l e kl)),
+      ap (λ n. sumTo n (λ l. gate (leads g′ c′ e via l) (linkLoad g′ c′ d l e))) (same .links),
+    )
+
+    pub linkLoad-alike : (d l e : ℕ) → l < g .K → linkLoad g c d l e ≡ linkLoad g′ c′ d l e
+    linkLoad-alike zero l e k = refl
+    linkLoad-alike (suc d) l e k = elementLoad-alike d (far g l e) l (far-below g c formed l e k)
+        ∙ ap (λ z. elementLoad g′ c′ d z l) (far-alike l e k)
+
+  mutual
+    unfolding linkOver
+
+    pub elementOver-alike : (d e via : ℕ) → e < g .E → elementOver g c d e via ≡ elementOver g′ c′ d e via
+    elementOver-alike zero e via k = over-none g c e via ∙ above-alike e (g .load e) (g′ .load e) k (same .loads e k) ∙ sym (over-none g′ c′ e via)
+    elementOver-alike (suc d) e via k = omega (
+      arith,
+      over-more g c d e via,
+      over-more g′ c′ d e via,
+      above-alike e (elementLoad g c (suc d) e via) (elementLoad g′ c′ (suc d) e via) k (elementLoad-alike (suc d) e via k),
+      leastTo-ext (g .K) (g .E) (λ l. orElse (g .E) (leads g c e via l) (linkOver g c d l e))
+          (λ l. orElse (g′ .E) (leads g′ c′ e via l) (linkOver g′ c′ d l e))
+          (λ l kl. rw (leads-alike e via l kl, linkOver-alike d l e kl, same .elements)),
+      ap (λ n. leastTo n (g .E) (λ l. orElse (g′ .E) (leads g′ c′ e via l) (linkOver g′ c′ d l e))) (same .links),
+      ap (λ z. leastTo (g′ .K) z (λ l. orElse (g′ .E) (leads g′ c′ e via l) (linkOver g′ c′ d l e))) (same .elements),
+    )
+
+    pub linkOver-alike : (d l e : ℕ) → l < g .K → linkOver g c d l e ≡ linkOver g′ c′ d l e
+    linkOver-alike zero l e k = same .elements
+    linkOver-alike (suc d) l e k = elementOver-alike d (far g l e) l (far-below g c formed l e k)
+        ∙ ap (λ z. elementOver g′ c′ d z l) (far-alike l e k)
+
+module _ (g g′ : Grid) (formed : Formed g) (same : Alike g g′) (c : Config) where
+  pub elementLoad-same : (d e via : ℕ) → e < g .E → elementLoad g c d e via ≡ elementLoad g′ c d e via
+  elementLoad-same = elementLoad-alike g g′ formed same c c (λ l k. refl)
+
+  pub linkLoad-same : (d l e : ℕ) → l < g .K → linkLoad g c d l e ≡ linkLoad g′ c d l e
+  linkLoad-same = linkLoad-alike g g′ formed same c c (λ l k. refl)
+
+  pub elementOver-same : (d e via : ℕ) → e < g .E → elementOver g c d e via ≡ elementOver g′ c d e via
+  elementOver-same = elementOver-alike g g′ formed same c c (λ l k. refl)
+
+  pub linkOver-same : (d l e : ℕ) → l < g .K → linkOver g c d l e ≡ linkOver g′ c d l e
+  linkOver-same = linkOver-alike g g′ formed same c c (λ l k. refl)
+
+-- ---- the chains of a network's ends
+
+sum-below : (f : ℕ → ℕ) (n : ℕ) → ((l : ℕ) → l < n → f l < 2 ^ 32) → sumTo n f ≤ 2 ^ 32 * n
+sum-below f zero h = omega (arith, sumTo-no f)
+sum-below f (suc n) h = omega (arith, sumTo-more f n, sum-below f n (λ l k. h l (omega arith)), h n (omega arith))
+
+module _ (a b : ℕ → ℕ) (K : ℕ) (fit : K ≤ 96) where
+  far-at : (j : ℕ) → j < 2 * K → at (ownEnds a b K .far) j ≡ endAt b a j
+  unfolding ownEnds farAt
+  far-at j k = at-tabulate 192 (λ j. gate (ltb j (2 * K)) (farAt a b j)) j (omega arith) ∙ rw (lt-ltb j (2 * K) k)
+
+  head-at : (e : ℕ) → e < 64 → at (ownEnds a b K .head) e ≡ ownEnd a b K e 0
+  unfolding ownEnds
+  head-at e k = at-tabulate 64 (λ e. ownEnd a b K e 0) e k
+
+  next-at : (j : ℕ) → j < 2 * K → at (ownEnds a b K .next) j ≡ ownEnd a b K (endAt a b j) (suc j)
+  unfolding ownEnds
+  next-at j k = at-tabulate 192 (λ j. elim (ltb j (2 * K)) [ true ↦ ownEnd a b K (endAt a b j) (suc j) | false ↦ 192 ]) j (omega arith)
+      ∙ rw (lt-ltb j (2 * K) k)
+
+  head-length : length (ownEnds a b K .head) ≡ 64
+  unfolding ownEnds
+  head-length = length-tabulate 64 _
+
+  next-length : length (ownEnds a b K .next) ≡ 192
+  unfolding ownEnds
+  next-length = length-tabulate 192 _
+
+  far-length : length (ownEnds a b K .far) ≡ 192
+  unfolding ownEnds
+  far-length = length-tabulate 192 _
+
+  far-a : (l : ℕ) → l < K → endsA (ownEnds a b K .far) l ≡ a l
+  far-a l k = far-at (2 * l + 1) (omega arith) ∙ end-second b a l
+
+  far-b : (l : ℕ) → l < K → endsB (ownEnds a b K .far) l ≡ b l
+  far-b l k = far-at (2 * l) (omega arith) ∙ end-first b a l
+
+module _ (E K : ℕ) (load capacity flags from to : List ℕ) (formed : Formed (gridOf E K load capacity flags from to)) (many : E ≤ 64)
+    (fit : K ≤ 96) where
+  from-lt : (l : ℕ) → l < K → at from l < E
+  unfolding gridOf
+  from-lt l k = formed .endA-lt l k
+
+  to-lt : (l : ℕ) → l < K → at to l < E
+  unfolding gridOf
+  to-lt l k = formed .endB-lt l k
+
+  ends-differ : (l : ℕ) → l < K → at from l ≡ at to l → ⊥
+  unfolding gridOf
+  ends-differ l k q = formed .differ l k q
+
+  -- what `own_ends` asks
+  pub two-ends : K ≤ length from → K ≤ length to → TwoEnds from to K
+  two-ends h h′ = record {
+    fit = fit;
+    from-long = h;
+    to-long = h′;
+    from-in = λ l k. omega (arith, from-lt l k);
+    to-in = λ l k. omega (arith, to-lt l k);
+  }
+
+  lent-own : (closed : List ℕ) → K ≤ length closed → E ≤ length load → E ≤ length capacity
+      → Lent (ownEnds (at from) (at to) K .head) (ownEnds (at from) (at to) K .next) (ownEnds (at from) (at to) K .far) closed load capacity E K
+  lent-own closed h h′ h″ = record {
+    fit = fit;
+    head-long = omega (arith, head-length (at from) (at to) K fit);
+    next-long = omega (arith, next-length (at from) (at to) K fit);
+    far-long = omega (arith, far-length (at from) (at to) K fit);
+    closed-long = h;
+    load-long = h′;
+    capacity-long = h″;
+    far-in = λ j k. rw (far-at (at from) (at to) K fit j k) (end-lt j k (eqb (j % 2) 0) refl);
+    differ = λ l k q. ends-differ l k (sym (far-a (at from) (at to) K fit l k) ∙ q ∙ far-b (at from) (at to) K fit l k);
+    heads = λ e k. head-at (at from) (at to) K fit e (omega arith) ∙ chain e 0;
+    nexts = λ j k. next-at (at from) (at to) K fit j k ∙ chain (endAt (at from) (at to) j) (suc j)
+        ∙ ap (λ z. ownEnd (endsA fars) (endsB fars) K z (suc j)) (endAt-ext (at from) (endsA fars) (at to) (endsB fars) K same-a same-b j k);
+  }
+    where
+      fars : List ℕ
+      fars = ownEnds (at from) (at to) K .far
+
+      same-a : (l : ℕ) → l < K → at from l ≡ endsA fars l
+      same-a l k = sym (far-a (at from) (at to) K fit l k)
+
+      same-b : (l : ℕ) → l < K → at to l ≡ endsB fars l
+      same-b l k = sym (far-b (at from) (at to) K fit l k)
+
+      chain : (e i : ℕ) → ownEnd (at from) (at to) K e i ≡ ownEnd (endsA fars) (endsB fars) K e i
+      chain e i = ownEnd-ext (at from) (endsA fars) (at to) (endsB fars) K same-a same-b e i
+
+      end-lt : (j : ℕ) → j < 2 * K → (t : Bool) → eqb (j % 2) 0 ≡ t → endAt (at to) (at from) j < E
+      end-lt j k true t = rw (end-even (at to) (at from) j (eqb-true (j % 2) 0 t)) (to-lt (j / 2) (omega arith))
+      end-lt j k false t = rw (end-odd (at to) (at from) j (eqb-false (j % 2) 0 t)) (from-lt (j / 2) (omega arith))
+
+  alike-own : Alike (gridOf E K load capacity flags from to) (walkGrid E K (ownEnds (at from) (at to) K .far) load capacity)
+  unfolding gridOf walkGrid
+  alike-own = record {
+    elements = refl;
+    links = refl;
+    loads = λ e k. refl;
+    capacities = λ e k. refl;
+    ends-a = λ l k. sym (far-a (at from) (at to) K fit l k);
+    ends-b = λ l k. sym (far-b (at from) (at to) K fit l k);
+  }
+
+  module _ (r : OwnEnds) (made : r ≡ ownEnds (at from) (at to) K) where
+    -- what `element_load`, `link_load` and `over_place` ask of the lists that they are lent
+    pub lent : (closed : List ℕ) → K ≤ length closed → E ≤ length load → E ≤ length capacity
+        → Lent (r .head) (r .next) (r .far) closed load capacity E K
+    lent closed h h′ h″ = rw made (lent-own closed h h′ h″)
+
+    pub alike : Alike (gridOf E K load capacity flags from to) (walkGrid E K (r .far) load capacity)
+    alike = rw made alike-own
+
+    pub element-over-is : (c : Config) (d e via : ℕ) → e < E
+        → elementOver (walkGrid E K (r .far) load capacity) c d e via ≡ elementOver (gridOf E K load capacity flags from to) c d e via
+    unfolding gridOf
+    element-over-is c d e via k = sym (elementOver-same (gridOf E K load capacity flags from to) _ formed alike c d e via k)
+
+    pub element-load-is : (c : Config) (d e via : ℕ) → e < E
+        → elementLoad (walkGrid E K (r .far) load capacity) c d e via ≡ elementLoad (gridOf E K load capacity flags from to) c d e via
+    unfolding gridOf
+    element-load-is c d e via k = sym (elementLoad-same (gridOf E K load capacity flags from to) _ formed alike c d e via k)
+
+    -- what `over_place` answers, where the sound sources are marked
+    pub over-place-is : (c : Config) (sound : List ℕ) → ((s : ℕ) → s < E → eqb (at sound s) 1 ≡ sound? (gridOf E K load capacity flags from to) s)
+        → overPlace (walkGrid E K (r .far) load capacity) c sound ≡ lowestOver (gridOf E K load capacity flags from to) c
+    unfolding overPlace lowestOver gridOf walkGrid
+    over-place-is c sound marked = leastTo-ext E E
+        (λ s. orElse E (eqb (at sound s) 1) (elementOver (walkGrid E K (r .far) load capacity) c (2 * E) s K))
+        (λ s. orElse E (sound? (gridOf E K load capacity flags from to) s) (elementOver (gridOf E K load capacity flags from to) c (2 * E) s K))
+        (λ s k. rw (marked s k, element-over-is c (2 * E) s K k))
+
+    total-fits : ((e : ℕ) → e < E → at load e < 2 ^ 32) → totalLoad (gridOf E K load capacity flags from to) < 2 ^ 64
+    unfolding totalLoad gridOf
+    total-fits small = omega (arith, sum-below (at load) E small)
+
+    load-fits : (c : Config) → Bridges (gridOf E K load capacity flags from to) c → (s : ℕ) → s < E
+        → elementLoad (gridOf E K load capacity flags from to) c (2 * E) s K ≤ totalLoad (gridOf E K load capacity flags from to)
+    unfolding gridOf
+    load-fits c bridges s k = load-at-most (gridOf E K load capacity flags from to) formed c bridges s K k (start refl)
+
+    -- and what it asks of the loads
+    pub carries : (c : Config) (sound : List ℕ) → Bridges (gridOf E K load capacity flags from to) c → ((e : ℕ) → e < E → at load e < 2 ^ 32)
+        → Carries (walkGrid E K (r .far) load capacity) c sound
+    unfolding walkGrid
+    carries c sound bridges small s k q = omega (arith, element-load-is c (2 * E) s K k, load-fits c bridges s k, total-fits small)

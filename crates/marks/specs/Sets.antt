@@ -1,0 +1,44 @@
+-- What the functions of this crate test, over lists of numbers.
+-- Assumes nothing.
+use mathlib.Core.Path.{_≡_}
+use mathlib.Core.Bool.{Bool, true, false, not, _&&_, _||_}
+use mathlib.Core.List.{List}
+use Prim.Native.Nat.{ℕ, _<_, _≤_}
+use lib.Dec.{eqb}
+use lib.ListN.{length}
+use Rattle.feeding.specs.Below.{anyTo, those}
+use Rattle.feeding.specs.Networks.{at, marked}
+
+-- the list reaches over the first n of at most 96 numbers
+pub record Reach (xs : List ℕ) (n : ℕ) : Type 0 where
+  pub fit : n ≤ 96
+  pub long : n ≤ length xs
+
+pub record PartsReach (label has : List ℕ) (n : ℕ) : Type 0 where
+  pub fit : n ≤ 64
+  pub label-long : n ≤ length label
+  pub has-long : n ≤ length has
+  pub label-in : (x : ℕ) → x < n → at label x < 64
+
+pub record EndsReach (from to has : List ℕ) (n : ℕ) : Type 0 where
+  pub fit : n ≤ 96
+  pub from-long : n ≤ length from
+  pub to-long : n ≤ length to
+  pub from-in : (l : ℕ) → l < n → at from l < length has
+  pub to-in : (l : ℕ) → l < n → at to l < length has
+
+unfoldable pub oneOf : (values : List ℕ) (one other x : ℕ) → Bool
+oneOf values one other x = eqb (at values x) one || eqb (at values x) other
+
+unfoldable pub butNot : (kept left : List ℕ) → ℕ → Bool
+butNot kept left x = marked kept x && not (marked left x)
+
+unfoldable pub inMarkedPart : (label has : List ℕ) (n x : ℕ) → Bool
+inMarkedPart label has n x = anyTo n (λ y. marked has y && eqb (at label x) (at label y))
+
+unfoldable pub atEitherEnd : (from to has : List ℕ) → ℕ → Bool
+atEitherEnd from to has l = marked has (at from l) || marked has (at to l)
+
+-- the members below n
+unfoldable pub members : List ℕ → ℕ → List ℕ
+members has n = those n (marked has)

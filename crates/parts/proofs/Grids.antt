@@ -1,0 +1,208 @@
+-- What `parts_of` returns, for a grid with these links: the grid's labels, none above its element, and marks where the grid's loops close.
+-- Assumes nothing.
+use Prim.Native.Nat.{ℕ, zero, suc, _≤_, _<_}
+use mathlib.Core.Path.{_≡_, refl, sym, ap, _∙_}
+use mathlib.Core.Bool.{Bool, true, false, cond, _&&_}
+use mathlib.Core.List.{List}
+use lib.Dec.{eqb, ltb, leb}
+use lib.ListN.{length, List·getD-eq-default}
+use borrow.Author.Tests.{eqb-true, eq-eqb, ltb-true, ltb-false, leb-true, leb-false}
+use native.Mathlib.Omega.{arith}
+use Rattle.feeding.specs.Below.{tabulate, anyTo}
+use Rattle.feeding.specs.Networks.{Grid, Formed, at, gridOf}
+use Rattle.feeding.specs.Parts.{Config, closedIn, relabel, link, labels, labelsAfter, label, joined?}
+use Rattle.feeding.specs.Safety.{loopAt, looped?}
+use Rattle.feeding.proofs.Below.{and-left, and-right, and-both, anyTo-out, anyTo-in}
+use Rattle.feeding.proofs.Labels.{labels-open, labels-closed, length-labels, labels-wider}
+use Rattle.feeding.proofs.Lows.{length-tabulate, at-tabulate}
+use Rattle.parts.specs.Labelling.{AllBelow, EndsBelow, partsOf, lastOfPart}
+use Rattle.parts.proofs.Lasts.{last-live}
+use Rattle.parts.proofs.Loops.{length-loops, loop-mark}
+use Rattle.parts.proofs.Turns.{labels-none, link-low, link-high}
+
+-- ---- no label is above its element
+
+relabel-le : (x y z : ℕ) → y ≤ x → relabel x y z ≤ z
+unfolding relabel
+relabel-le x y z h = go (eqb z x) refl
+  where
+    go : (t : Bool) → eqb z x ≡ t → cond t y z ≤ z
+    go true e = omega (arith, eqb-true z x e)
+    go false e = omega arith
+
+link-le : (i j : ℕ) (ls : List ℕ) (e : ℕ) → at (link i j ls) e ≤ at ls e
+link-le i j ls e = go (leb (at ls i) (at ls j)) refl
+  where
+    go : (t : Bool) → leb (at ls i) (at ls j) ≡ t → at (link i j ls) e ≤ at ls e
+    go true t = let h = leb-true (at ls i) (at ls j) t in omega (arith, link-low ls i j e h, relabel-le (at ls j) (at ls i) (at ls e) h)
+    go false t = let h = leb-false (at ls i) (at ls j) t in omega (arith, link-high ls i j e h, relabel-le (at ls i) (at ls j) (at ls e) (omega arith))
+
+own-le : (m e : ℕ) → at (tabulate m (λ e. e)) e ≤ e
+own-le m e = go (ltb e m) refl
+  where
+    go : (t : Bool) → ltb e m ≡ t → at (tabulate m (λ e. e)) e ≤ e
+    go true t = omega (arith, at-tabulate m (λ e. e) e (ltb-true e m t))
+    go false t =
+        let out : length (tabulate m (λ e. e)) ≤ e = omega (arith, length-tabulate m (λ e. e), ltb-false e m t) in
+        omega (arith, List·getD-eq-default (tabulate m (λ e. e)) 0 out)
+
+pub labels-le : (m : ℕ) (a b : ℕ → ℕ) (c : Config) (n e : ℕ) → at (labels m a b c n) e ≤ e
+labels-le m a b c zero e = rw (labels-none m a b c) (own-le m e)
+labels-le m a b c (suc n) e = go (labels-le m a b c n e) (c n) refl
+  where
+    go : at (labels m a b c n) e ≤ e → (t : Bool) → c n ≡ t → at (labels m a b c (suc n)) e ≤ e
+    go ih true t = rw (labels-closed m a b c n t) (omega (arith, link-le (a n) (b n) (labels m a b c n) e))
+    go ih false t = rw (labels-open m a b c n t) ih
+
+module _ (from to closed : List ℕ) (n : ℕ) where
+  pub label-le : (e : ℕ) → at (partsOf from to closed n .label) e ≤ e
+  unfolding partsOf
+  label-le e = labels-le 64 (at from) (at to) (closedIn closed) n e
+
+  pub label-long : length (partsOf from to closed n .label) ≡ 64
+  unfolding partsOf
+  label-long = length-labels 64 (at from) (at to) (closedIn closed) n
+
+  pub looped-long : length (partsOf from to closed n .looped) ≡ 64
+  unfolding partsOf
+  looped-long = length-loops 64 (at from) (at to) (closedIn closed) n
+
+  pub label-below : (e : ℕ) → at (partsOf from to closed n .label) e < 64
+  label-below e = go (ltb e 64) refl
+    where
+      go : (t : Bool) → ltb e 64 ≡ t → at (partsOf from to closed n .label) e < 64
+      go true t = omega (arith, ltb-true e 64 t, label-le e)
+      go false t =
+          let out : length (partsOf from to closed n .label) ≤ e = omega (arith, label-long, ltb-false e 64 t) in
+          omega (arith, List·getD-eq-default (partsOf from to closed n .label) 0 out)
+
+  -- what `last_of_part` asks of the labels
+  pub labels-below : (m : ℕ) → AllBelow 64 (partsOf from to closed n .label) m
+  labels-below m e h = label-below e
+
+  pub looped-mark : (x : ℕ) → x < 64
+      → eqb (at (partsOf from to closed n .looped) x) 1
+      ≡ anyTo n (λ l. (closedIn closed l && eqb (at (labels 64 (at from) (at to) (closedIn closed) l) (at from l))
+      (at (labels 64 (at from) (at to) (closedIn closed) l) (at to l))) && eqb (at from l) x)
+  unfolding partsOf
+  looped-mark x h = loop-mark 64 (at from) (at to) (closedIn closed) n x h
+
+-- ---- a grid with these links
+
+pub anyTo-ext : (n : ℕ) (f g : ℕ → Bool) → ((l : ℕ) → l < n → f l ≡ g l) → anyTo n f ≡ anyTo n g
+unfolding anyTo
+anyTo-ext zero f g h = refl
+anyTo-ext (suc n) f g h = rw (anyTo-ext n f g (λ l k. h l (omega arith)), h n (omega arith))
+
+same-test : (s t : Bool) → (s ≡ true → t ≡ true) → (t ≡ true → s ≡ true) → s ≡ t
+same-test true t f b = sym (f refl)
+same-test false true f b = b refl
+same-test false false f b = refl
+
+module _ (from to closed : List ℕ) (g : Grid) (formed : Formed g) (small : g .E ≤ 64) (a-is : g .endA ≡ at from) (b-is : g .endB ≡ at to) where
+  pub ends-below : g .K ≤ length from → g .K ≤ length to → g .K ≤ length closed → EndsBelow 64 from to closed (g .K)
+  ends-below hf ht hc = record {
+    from-long = hf;
+    to-long = ht;
+    closed-long = hc;
+    from-in = λ l k. omega (arith, formed .endA-lt l k, ap (λ (f : ℕ → ℕ). f l) a-is);
+    to-in = λ l k. omega (arith, formed .endB-lt l k, ap (λ (f : ℕ → ℕ). f l) b-is);
+  }
+
+  pub labels-are : (n : ℕ) → n ≤ g .K → (e : ℕ) → e < g .E
+      → at (labels 64 (at from) (at to) (closedIn closed) n) e ≡ at (labelsAfter g (closedIn closed) n) e
+  labels-are n h e k =
+      rw (← a-is, ← b-is)
+      (labels-wider (g .E) 64 small (g .endA) (g .endB) (closedIn closed) n
+      (λ l b. (formed .endA-lt l (omega arith), formed .endB-lt l (omega arith))) e k)
+
+  pub label-is : (e : ℕ) → e < g .E → at (partsOf from to closed (g .K) .label) e ≡ label g (closedIn closed) e
+  unfolding partsOf label
+  label-is e k = labels-are (g .K) (omega arith) e k
+
+  -- a mark stands where a link from there closes a loop
+  pub looped-is : (x : ℕ) → x < 64
+      → eqb (at (partsOf from to closed (g .K) .looped) x) 1 ≡ anyTo (g .K) (λ l. loopAt g (closedIn closed) l && eqb (g .endA l) x)
+  unfolding loopAt
+  looped-is x h = looped-mark from to closed (g .K) x h ∙ anyTo-ext (g .K) _ _ (λ l k. each l k)
+    where
+      each : (l : ℕ) → l < g .K
+          → ((closedIn closed l && eqb (at (labels 64 (at from) (at to) (closedIn closed) l) (at from l))
+          (at (labels 64 (at from) (at to) (closedIn closed) l) (at to l))) && eqb (at from l) x)
+          ≡ ((closedIn closed l && eqb (at (labelsAfter g (closedIn closed) l) (g .endA l)) (at (labelsAfter g (closedIn closed) l) (g .endB l)))
+          && eqb (g .endA l) x)
+      each l k =
+          let fa : at from l ≡ g .endA l = ap (λ (f : ℕ → ℕ). f l) (sym a-is) in
+          let tb : at to l ≡ g .endB l = ap (λ (f : ℕ → ℕ). f l) (sym b-is) in
+          let p = labels-are l (omega arith) (g .endA l) (formed .endA-lt l k) in
+          let q = labels-are l (omega arith) (g .endB l) (formed .endB-lt l k) in
+          rw (fa, tb, p, q)
+
+  -- the part of e has a marked element below E exactly where it has a link that closes a loop
+  pub looped-part : (e : ℕ) → e < g .E
+      → ltb (at (lastOfPart (partsOf from to closed (g .K) .label) (partsOf from to closed (g .K) .looped) (g .E))
+      (at (partsOf from to closed (g .K) .label) e)) 64
+      ≡ looped? g (closedIn closed) e
+  unfolding looped? joined?
+  looped-part e k =
+      last-live lab loo (g .E) (at lab e) small (label-below from to closed (g .K) e) ∙ same-test (anyTo (g .E) marked) (anyTo (g .K) linked) there back
+    where
+      lab : List ℕ
+      lab = partsOf from to closed (g .K) .label
+
+      loo : List ℕ
+      loo = partsOf from to closed (g .K) .looped
+
+      marked : ℕ → Bool
+      marked x = eqb (at loo x) 1 && eqb (at lab x) (at lab e)
+
+      linked : ℕ → Bool
+      linked l = loopAt g (closedIn closed) l && eqb (label g (closedIn closed) (g .endA l)) (label g (closedIn closed) e)
+
+      there : anyTo (g .E) marked ≡ true → anyTo (g .K) linked ≡ true
+      there h =
+          let r = anyTo-out (g .E) marked h in
+          let x = r .0 in
+          let on : eqb (at loo x) 1 ≡ true = and-left (eqb (at loo x) 1) _ (r .2) in
+          let here : at lab x ≡ at lab e = eqb-true _ _ (and-right (eqb (at loo x) 1) _ (r .2)) in
+          let q = anyTo-out (g .K) (λ l. loopAt g (closedIn closed) l && eqb (g .endA l) x) (sym (looped-is x (omega (arith, r .1))) ∙ on) in
+          let l = q .0 in
+          let from-x : g .endA l ≡ x = eqb-true _ _ (and-right (loopAt g (closedIn closed) l) _ (q .2)) in
+          let alike : label g (closedIn closed) (g .endA l) ≡ label g (closedIn closed) e =
+          ap (label g (closedIn closed)) from-x ∙ sym (label-is x (r .1)) ∙ here ∙ label-is e k in
+          anyTo-in (g .K) linked l (q .1)
+          (and-both (loopAt g (closedIn closed) l) _ (and-left (loopAt g (closedIn closed) l) _ (q .2)) (eq-eqb _ _ alike))
+
+      back : anyTo (g .K) linked ≡ true → anyTo (g .E) marked ≡ true
+      back h =
+          let r = anyTo-out (g .K) linked h in
+          let l = r .0 in
+          let x = g .endA l in
+          let low : x < g .E = formed .endA-lt l (r .1) in
+          let loop : loopAt g (closedIn closed) l ≡ true = and-left (loopAt g (closedIn closed) l) _ (r .2) in
+          let alike : label g (closedIn closed) x ≡ label g (closedIn closed) e = eqb-true _ _ (and-right (loopAt g (closedIn closed) l) _ (r .2)) in
+          let on : eqb (at loo x) 1 ≡ true =
+          looped-is x (omega arith)
+          ∙ anyTo-in (g .K) (λ l. loopAt g (closedIn closed) l && eqb (g .endA l) x) l (r .1) (and-both _ _ loop (eq-eqb x x refl)) in
+          anyTo-in (g .E) marked x low (and-both (eqb (at loo x) 1) _ on (eq-eqb _ _ (label-is x low ∙ alike ∙ sym (label-is e k))))
+
+module _ (E K : ℕ) (load capacity flags from to closed : List ℕ) (formed : Formed (gridOf E K load capacity flags from to)) (small : E ≤ 64) where
+  pub grid-ends : K ≤ length from → K ≤ length to → K ≤ length closed → EndsBelow 64 from to closed K
+  unfolding gridOf
+  grid-ends hf ht hc = ends-below from to closed (gridOf E K load capacity flags from to) formed small refl refl hf ht hc
+
+  pub grid-label : (e : ℕ) → e < E → at (partsOf from to closed K .label) e ≡ label (gridOf E K load capacity flags from to) (closedIn closed) e
+  unfolding gridOf
+  grid-label e k = label-is from to closed (gridOf E K load capacity flags from to) formed small refl refl e k
+
+  pub grid-looped : (x : ℕ) → x < 64
+      → eqb (at (partsOf from to closed K .looped) x) 1
+      ≡ anyTo K (λ l. loopAt (gridOf E K load capacity flags from to) (closedIn closed) l && eqb (at from l) x)
+  unfolding gridOf
+  grid-looped x h = looped-is from to closed (gridOf E K load capacity flags from to) formed small refl refl x h
+
+  pub grid-looped-part : (e : ℕ) → e < E
+      → ltb (at (lastOfPart (partsOf from to closed K .label) (partsOf from to closed K .looped) E) (at (partsOf from to closed K .label) e)) 64
+      ≡ looped? (gridOf E K load capacity flags from to) (closedIn closed) e
+  unfolding gridOf
+  grid-looped-part e k = looped-part from to closed (gridOf E K load capacity flags from to) formed small refl refl e k

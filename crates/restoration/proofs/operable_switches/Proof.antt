@@ -1,0 +1,118 @@
+-- The operable switches: the links with a waiting end, without the fixed ones.
+-- Assumes nothing.
+use mathlib.Core.Path.{_≡_, refl, sym, ap, _∙_}
+use Prim.Native.Nat.{ℕ, _<_, _≤_}
+use native.Mathlib.Omega.{arith}
+use lib.ListN.{length}
+use borrow.Author.Needs.{needs}
+use Rattle.restoration.proofs.Reach.{marks-long, marks-reach, ends-reach, network-configuration}
+use Rattle.restoration.proofs.Sets.{operable-is}
+use Rattle.restoration.proofs.operable_switches.Statement.{statement}
+use Rattle.restoration.proofs.operable_switches.Tie as tie
+
+restorable-elements-requires : tie.Need-restorable-elements-requires
+restorable-elements-requires c κs = search needs
+
+slice-aggregate-marks-of : tie.Need-slice-aggregate-marks-of
+slice-aggregate-marks-of c = search needs
+
+marks-of-requires : tie.Need-marks-of-requires
+marks-of-requires c κs = search needs
+
+slice-aggregate-live-elements : tie.Need-slice-aggregate-live-elements
+slice-aggregate-live-elements c = search needs
+
+slice-aggregate-live-elements-2 : tie.Need-slice-aggregate-live-elements-2
+slice-aggregate-live-elements-2 c = search needs
+
+slice-aggregate-live-elements-3 : tie.Need-slice-aggregate-live-elements-3
+slice-aggregate-live-elements-3 c = search needs
+
+slice-aggregate-live-elements-4 : tie.Need-slice-aggregate-live-elements-4
+slice-aggregate-live-elements-4 c = search needs
+
+live-elements-requires : tie.Need-live-elements-requires
+live-elements-requires c κs = search needs
+
+slice-aggregate-except : tie.Need-slice-aggregate-except
+slice-aggregate-except c = search needs
+
+slice-aggregate-except-2 : tie.Need-slice-aggregate-except-2
+slice-aggregate-except-2 c = search needs
+
+except-requires : tie.Need-except-requires
+except-requires c κs = search needs
+
+slice-aggregate-at-either-end : tie.Need-slice-aggregate-at-either-end
+slice-aggregate-at-either-end c = search needs
+
+slice-aggregate-at-either-end-2 : tie.Need-slice-aggregate-at-either-end-2
+slice-aggregate-at-either-end-2 c = search needs
+
+slice-aggregate-at-either-end-3 : tie.Need-slice-aggregate-at-either-end-3
+slice-aggregate-at-either-end-3 c = search needs
+
+at-either-end-requires : tie.Need-at-either-end-requires
+at-either-end-requires c κs =
+    let args· = c .before .before .before .before .before .before .before .before .before .before .before .before .before .before .before .before .before .before .args in
+    let pre· = c .before .before .before .before .before .before .before .before .before .before .before .before .before .before .before .before .before .before .pre in
+    let except· = c .before .before .before .except in
+    ends-reach (args· .net) pre· (except· .result) (marks-long _ _ _ (except· .ensures))
+
+slice-aggregate-marks-of-2 : tie.Need-slice-aggregate-marks-of-2
+slice-aggregate-marks-of-2 c = search needs
+
+marks-of-requires-2 : tie.Need-marks-of-requires-2
+marks-of-requires-2 c κs = search needs
+
+slice-aggregate-except-3 : tie.Need-slice-aggregate-except-3
+slice-aggregate-except-3 c = search needs
+
+slice-aggregate-except-4 : tie.Need-slice-aggregate-except-4
+slice-aggregate-except-4 c = search needs
+
+except-requires-2 : tie.Need-except-requires-2
+except-requires-2 c κs =
+    let pre· = c .before .before .before .before .before .before .before .before .before .before .before .before .before .before .before .before .before .before .before .before .before .before .before .pre in
+    let at-either-end· = c .before .before .before .before .at-either-end in
+    (marks-reach _ _ _ _ (pre· .links-fit) (at-either-end· .ensures), marks-reach _ _ _ _ (pre· .links-fit) (c .before .before .marks-of2 .ensures))
+
+returns : tie.Need-returns
+returns c =
+    let args· = c .before .before .before .before .before .before .before .before .before .before .before .before .before .before .before .before .before .before .before .before .before .before .before .before .args in
+    let pre· = c .before .before .before .before .before .before .before .before .before .before .before .before .before .before .before .before .before .before .before .before .before .before .before .before .pre in
+    let restorable-elements· = c .before .before .before .before .before .before .before .before .before .before .before .before .before .before .before .before .before .before .before .restorable-elements in
+    let marks-of· = c .before .before .before .before .before .before .before .before .before .before .before .before .before .before .before .before .before .marks-of in
+    let live-elements· = c .before .before .before .before .before .before .before .before .before .before .before .before .live-elements in
+    let except· = c .before .before .before .before .before .before .before .before .before .except in
+    let at-either-end· = c .before .before .before .before .before .at-either-end in
+    let marks-of2· = c .before .before .before .marks-of2 in
+    c .except2 .ensures
+    ∙ operable-is (args· .net) pre· (restorable-elements· .result) (marks-of· .result) (live-elements· .result) (except· .result) (at-either-end· .result) (marks-of2· .result)
+    (restorable-elements· .ensures) (marks-of· .ensures) (live-elements· .ensures) (except· .ensures) (at-either-end· .ensures) (marks-of2· .ensures)
+
+pub operable-switches-spec : {M : Type 1} → statement M
+operable-switches-spec =
+    tie.close
+    (tie.spec
+    restorable-elements-requires
+    slice-aggregate-marks-of
+    marks-of-requires
+    slice-aggregate-live-elements
+    slice-aggregate-live-elements-2
+    slice-aggregate-live-elements-3
+    slice-aggregate-live-elements-4
+    live-elements-requires
+    slice-aggregate-except
+    slice-aggregate-except-2
+    except-requires
+    slice-aggregate-at-either-end
+    slice-aggregate-at-either-end-2
+    slice-aggregate-at-either-end-3
+    at-either-end-requires
+    slice-aggregate-marks-of-2
+    marks-of-requires-2
+    slice-aggregate-except-3
+    slice-aggregate-except-4
+    except-requires-2
+    returns)

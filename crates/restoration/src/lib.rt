@@ -1,0 +1,92 @@
+// What a network's faults spoil, what can be restored, and which switches may be operated for it: sets of elements or links, 1 for a member.
+use marks::at_either_end;
+use marks::count_of;
+use marks::except;
+use marks::marks_of;
+use marks::spread;
+use network::Network;
+use parts::parts_of;
+ghost use mathlib.Core.Path.{_≡_};
+ghost use lib.ListN.{length};
+ghost use Rattle.network_file.specs.Accepted.{WellFormed};
+ghost use Rattle.feeding.specs.Below.{marks};
+ghost use Rattle.feeding.specs.Networks.{netOf};
+ghost use Rattle.feeding.specs.Restoration.{spoiled?, restorable?, operable?, operables};
+ghost use Rattle.restoration.specs.Living.{ConfigurationReach, liveIn};
+
+pub fn spoiled_elements(net: Network) -> [u8; 96]
+    requires { ⌜ WellFormed net ⌝ }
+    ensures { λ r. ⌜ r ≡ marks 96 (net .elements) (spoiled? (netOf net)) ⌝ }
+{
+    let from = net.from;
+    let to = net.to;
+    let flags = net.flags;
+    let form = net.form;
+    let fixed = marks_of(&form, 0, 0, net.links);
+    let parts = parts_of(&from, &to, &fixed, net.links);
+    let label = parts.label;
+    let faulty = marks_of(&flags, 2, 3, net.elements);
+    spread(&label, &faulty, net.elements)
+}
+
+pub fn restorable_elements(net: Network) -> [u8; 96]
+    requires { ⌜ WellFormed net ⌝ }
+    ensures { λ r. ⌜ r ≡ marks 96 (net .elements) (restorable? (netOf net)) ⌝ }
+{
+    let from = net.from;
+    let to = net.to;
+    let flags = net.flags;
+    let spoiled = spoiled_elements(net);
+    let touched = at_either_end(&from, &to, &spoiled, net.links);
+    let all: [u8; 96] = [1; 96];
+    let clean = except(&all, &touched, net.links);
+    let parts = parts_of(&from, &to, &clean, net.links);
+    let label = parts.label;
+    let source = marks_of(&flags, 1, 3, net.elements);
+    let unspoiled = except(&source, &spoiled, net.elements);
+    let reached = spread(&label, &unspoiled, net.elements);
+    except(&reached, &spoiled, net.elements)
+}
+
+// The live elements of a configuration; closed[l] is 1 for a closed link.
+pub fn live_elements<'a>(
+    flags: &'a [u16],
+    from: &'a [u16],
+    to: &'a [u16],
+    closed: &'a [u8],
+    elements: usize,
+    links: usize,
+) -> [u8; 96]
+    requires { ⌜ ConfigurationReach (now flags) (now from) (now to) (now closed) elements links ⌝ }
+    ensures { λ r. ⌜ r ≡ marks 96 elements (liveIn elements links (now (flags .entry)) (now (from .entry)) (now (to .entry)) (now (closed .entry))) ⌝ }
+{
+    let parts = parts_of(from, to, closed, links);
+    let label = parts.label;
+    let sound = marks_of(flags, 1, 1, elements);
+    spread(&label, &sound, elements)
+}
+
+pub fn operable_switches(net: Network) -> [u8; 96]
+    requires { ⌜ WellFormed net ⌝ }
+    ensures { λ r. ⌜ r ≡ marks 96 (net .links) (operable? (netOf net)) ⌝ }
+{
+    let from = net.from;
+    let to = net.to;
+    let flags = net.flags;
+    let form = net.form;
+    let restorable = restorable_elements(net);
+    let closed = marks_of(&form, 0, 2, net.links);
+    let live = live_elements(&flags, &from, &to, &closed, net.elements, net.links);
+    let waiting = except(&restorable, &live, net.elements);
+    let ends = at_either_end(&from, &to, &waiting, net.links);
+    let fixed = marks_of(&form, 0, 0, net.links);
+    except(&ends, &fixed, net.links)
+}
+
+pub fn operable_count(net: Network) -> usize
+    requires { ⌜ WellFormed net ⌝ }
+    ensures { λ r. ⌜ r ≡ length (operables (netOf net)) ⌝ }
+{
+    let operable = operable_switches(net);
+    count_of(&operable, net.links)
+}
