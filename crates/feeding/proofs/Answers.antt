@@ -19,10 +19,10 @@ use Rattle.feeding.specs.Loads as Loads
 use Rattle.feeding.specs.Networks.{Net, Formed}
 use Rattle.feeding.specs.Restoration.{Operables, operable?, operables}
 use Rattle.feeding.specs.Safety.{Tree, Paired, FaultLive, treePlace, pairPlace, faultPlace}
-use Rattle.feeding.proofs.Decided.{none-below, none-place, tree-place, pair-place, fault-place, trees-kept}
+use Rattle.feeding.proofs.Decided.{tree-place, pair-place, fault-place, trees-kept}
 use Rattle.feeding.proofs.Decided.{Kept, kept-safe, safe-kept, kept-safety, broken, unbroken}
 use Rattle.feeding.proofs.Forest.{safe-bridges}
-use Rattle.feeding.proofs.Lows.{lowest-unique, those-in, those-out, those-rising, rising-unique}
+use Rattle.feeding.proofs.Lows.{lowest-unique, those-in, those-out, those-rising, rising-unique, none-below, none-place}
 use Rattle.feeding.proofs.Overloads.{over-lowest}
 use Rattle.feeding.proofs.Tests.{operable?-in, operable?-out}
 

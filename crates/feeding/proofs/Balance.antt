@@ -11,10 +11,9 @@ use Rattle.feeding.specs.Parts.{Config, Joined, here, over, Sound, Live,
 use Rattle.feeding.specs.Plans.{Step, run, Good}
 use Rattle.feeding.specs.Restoration.{Spoiled, Restorable, itself, beside, restorable?, fedLoad, darkLoad, lostLoad, totalLoad}
 use Rattle.feeding.specs.Safety.{Safe}
-use Rattle.feeding.proofs.Below.{sumTo-ext}
 use Rattle.feeding.proofs.Joins.{joined-trans, joined-sym}
 use Rattle.feeding.proofs.Printed.{run-keeps}
-use Rattle.feeding.proofs.Sums.{sumTo-add}
+use Rattle.feeding.proofs.Sums.{sumTo-add, sumTo-ext}
 use Rattle.feeding.proofs.Tests.{live?-out, restorable?-in}
 
 -- fixed links stay closed on the way

@@ -18,22 +18,10 @@ use Rattle.feeding.specs.Parts.{Config, Joined, Sound}
 use Rattle.feeding.specs.Safety.{Tree, Paired, FaultLive, Safe, looped?, treePlace, pairPlace, faultPlace, safe?}
 use Rattle.feeding.proofs.Forest.{safe-bridges}
 use Rattle.feeding.proofs.Load.{fed-in}
-use Rattle.feeding.proofs.Lows.{lowest-is, lowest-map, lowest-all}
+use Rattle.feeding.proofs.Lows.{lowest-is, lowest-map, lowest-all, none-below, none-place}
 use Rattle.feeding.proofs.Overloads.{over-lowest}
 use Rattle.feeding.proofs.Tests.{paired?-in, paired?-out, faultLive?-in, faultLive?-out}
 use Rattle.feeding.proofs.Trees.{looped-in, looped-out}
-
--- ---- a lowest number is the bound exactly where no number below it has the property
-
-pub none-below : (n : ℕ) (P : ℕ → Type 0) (x : ℕ) → Lowest n P x → ltb x n ≡ false → (e : ℕ) → e < n → ¬ P e
-none-below n P x low h e k = low .none-lower e (omega (arith, ltb-false x n h))
-
-pub none-place : (n : ℕ) (P : ℕ → Type 0) (x : ℕ) → Lowest n P x → ((e : ℕ) → e < n → ¬ P e) → ltb x n ≡ false
-none-place n P x low none = go (ltb x n) refl
-  where
-    go : (t : Bool) → ltb x n ≡ t → t ≡ false
-    go true t = absurd (none x (ltb-true x n t) (low .has (ltb-true x n t)))
-    go false t = refl
 
 -- ---- the places of rules 14 to 16 (of rule 17: over-lowest)
 

@@ -14,14 +14,13 @@ use Rattle.feeding.specs.Networks.{Grid, Formed}
 use Rattle.feeding.specs.Parts.{Config, Joined, here, over, touches, far, joined?}
 use Rattle.feeding.specs.Restoration.{totalLoad}
 use Rattle.feeding.specs.Safety.{without}
-use Rattle.feeding.proofs.Below.{sumTo-ext, sumTo-mono, gate-ext, gate-mono, and-left, and-right, and-both, not-out}
+use Rattle.feeding.proofs.Below.{gate-ext, gate-mono, and-left, and-right, and-both, not-out, gate-le}
 use Rattle.feeding.proofs.Forest.{Bridges, without-on, without-ne, without-in}
 use Rattle.feeding.proofs.Joins.{spans-far, joined-sym, joined-trans}
 use Rattle.feeding.proofs.Labels.{joined?-sound, joined?-complete, far-lt}
 use Rattle.feeding.proofs.Load.{same-load, load-equation}
 use Rattle.feeding.proofs.Opening.{joined-mono}
-use Rattle.feeding.proofs.Sums.{gate-le, sumTo-add, sumTo-none, sumTo-at}
-use Rattle.feeding.proofs.Totals.{sumTo-zero, sumTo-only, sumTo-swap}
+use Rattle.feeding.proofs.Sums.{sumTo-add, sumTo-at, sumTo-ext, sumTo-mono, sumTo-zero, sumTo-only, sumTo-swap, gate-sum}
 use Rattle.feeding.proofs.Walk.{Came, by, came-on, leads-touches, leads-on, leads-in, spans-either}
 use Rattle.feeding.proofs.Walk.{apart, ahead, room, room-le, room-shrinks, room-pos}
 
@@ -101,11 +100,7 @@ first-link g c e via x j = go (way g c e via j)
     go (ends q) = inl q
     go (leaves n) = inr n
 
--- ---- sums over a condition
-
-gate-sum : (b : Bool) (n : ℕ) (f : ℕ → ℕ) → gate b (sumTo n f) ≡ sumTo n (λ x. gate b (f x))
-gate-sum true n f = refl
-gate-sum false n f = sym (sumTo-none n)
+-- ---- a value under two conditions
 
 gates-shut : (a b : Bool) (x : ℕ) → (a ≡ true → b ≡ true → ⊥) → gate a (gate b x) ≡ 0
 gates-shut true true x h = absurd (h refl refl)
@@ -144,7 +139,7 @@ module _ (g : Grid) (formed : Formed g) (c : Config) (bridges : Bridges g c) whe
   -- what lies ahead of a link that leads on from e does not hold e
   never-back : (e via l : ℕ) → e < g .E → l < g .K → leads g c e via l ≡ true → joined? g (without c l) e (far g l e) ≡ true → ⊥
   never-back e via l k kl p q = apart g c bridges l e (far g l e) kl (leads-on g c e via l p) (spans-far g l e (leads-touches g c e via l p))
-      (joined?-sound g formed (without c l) e (far g l e) k (far-lt g formed c l e kl (leads-touches g c e via l p)) q)
+      (joined?-sound g formed (without c l) e (far g l e) k (far-lt g formed l e kl) q)
 
   -- and two such links have nothing in common
   disjoint : (e via l m x : ℕ) → l < g .K → m < g .K → leads g c e via l ≡ true → leads g c e via m ≡ true → (m ≡ l → ⊥)
@@ -163,7 +158,7 @@ module _ (g : Grid) (formed : Formed g) (c : Config) (bridges : Bridges g c) whe
       term l = gate (leads g c e via l) (gate (joined? g (without c l) x (far g l e)) (g .load x))
 
       sound-on : (l : ℕ) → l < g .K → leads g c e via l ≡ true → joined? g (without c l) x (far g l e) ≡ true → Joined g (without c l) x (far g l e)
-      sound-on l kl p q = joined?-sound g formed (without c l) x (far g l e) kx (far-lt g formed c l e kl (leads-touches g c e via l p)) q
+      sound-on l kl p q = joined?-sound g formed (without c l) x (far g l e) kx (far-lt g formed l e kl) q
 
       none : ((l : ℕ) → l < g .K → leads g c e via l ≡ true → joined? g (without c l) x (far g l e) ≡ true → ⊥) → sumTo (g .K) term ≡ 0
       none h = sumTo-zero (g .K) term (λ l kl. gates-shut (leads g c e via l) _ (g .load x) (h l kl))
@@ -199,7 +194,7 @@ module _ (g : Grid) (formed : Formed g) (c : Config) (bridges : Bridges g c) whe
       load-equation g formed c bridges e via k came
       ∙ ap (λ z. g .load e + z) (sumTo-ext (g .K) _ _ (λ l kl. gate-ext (leads g c e via l) _ _ (λ p.
       hangs r (far g l e) l (omega (arith, room-shrinks g formed c bridges e via l k came kl p))
-      (far-lt g formed c l e kl (leads-touches g c e via l p)) (came-on g c e via l kl p))
+      (far-lt g formed l e kl) (came-on g c e via l kl p))
       ∙ gate-sum (leads g c e via l) (g .E) (λ x. gate (joined? g (without c l) x (far g l e)) (g .load x))))
       ∙ ap (λ z. g .load e + z) (sumTo-swap (g .K) (g .E) terms)
       ∙ ap (λ z. z + sumTo (g .E) (λ x. sumTo (g .K) (λ l. terms l x))) own
@@ -233,4 +228,4 @@ module _ (g : Grid) (formed : Formed g) (c : Config) (bridges : Bridges g c) whe
   pub link-at-most : (d l e via : ℕ) → l < g .K → leads g c e via l ≡ true → linkLoad g c d l e ≤ totalLoad g
   unfolding linkLoad
   link-at-most zero l e via k p = omega arith
-  link-at-most (suc d) l e via k p = element-at-most d (far g l e) l (far-lt g formed c l e k (leads-touches g c e via l p)) (came-on g c e via l k p)
+  link-at-most (suc d) l e via k p = element-at-most d (far g l e) l (far-lt g formed l e k) (came-on g c e via l k p)

@@ -1,15 +1,12 @@
 -- `Joined` is an equivalence: a path is followed, put behind another, or gone back, step by step.
 -- Assumes nothing.
-use Prim.Native.Nat.{ℕ, zero, suc, _+_, _*_, _≤_, _<_}
-use mathlib.Core.Path.{_≡_, refl, sym, ap, _∙_, subst}
-use mathlib.Core.Logic.{_⊎_, inl, inr}
-use mathlib.Core.Bool.{Bool, true, false, not, cond, _&&_, _||_, false≢true, true≢false}
-use lib.Dec.{eqb, ltb}
-use borrow.Author.Tests.{eqb-true, eqb-false, eq-eqb, ne-eqb}
-use native.Mathlib.Omega.{arith}
+use Prim.Native.Nat.{ℕ, _<_}
+use mathlib.Core.Path.{_≡_, refl, sym, _∙_}
+use mathlib.Core.Bool.{Bool, true, false, cond, _||_}
+use lib.Dec.{eqb}
+use borrow.Author.Tests.{eqb-true, eq-eqb}
 use Rattle.feeding.specs.Networks.{Grid}
 use Rattle.feeding.specs.Parts.{Config, Joined, here, over, touches, far}
-use Rattle.feeding.proofs.Below.{and-left, and-right, and-both}
 
 -- a link from a to b, in either direction
 pub data Spans (g : Grid) (l a b : ℕ) : Type 0 where

@@ -7,11 +7,11 @@ use mathlib.Core.Bool.{Bool, true, false, cond, _&&_, false≢true}
 use mathlib.Core.List.{List, map}
 use lib.ListN.{length, getD, length-map, List·getD-map, List·getD-eq-default}
 use lib.Dec.{eqb, ltb, leb}
-use borrow.Author.Tests.{eqb-true, eqb-false, eq-eqb, ltb-true, ltb-false, lt-ltb, leb-true, leb-false}
+use borrow.Author.Tests.{eqb-true, eqb-false, eq-eqb, ne-eqb, ltb-true, ltb-false, lt-ltb, leb-true, leb-false, le-leb, lt-leb}
 use native.Mathlib.Omega.{arith}
 use Rattle.feeding.specs.Below.{tabulate}
 use Rattle.feeding.specs.Networks.{Grid, Formed, at}
-use Rattle.feeding.specs.Parts.{Config, Joined, here, over, touches, far, relabel, merge, link, labels, labelsAfter, label, joined?}
+use Rattle.feeding.specs.Parts.{Config, Joined, here, over, far, relabel, merge, link, labels, labelsAfter, label, joined?}
 use Rattle.feeding.proofs.Below.{and-left, and-right, and-both}
 use Rattle.feeding.proofs.Joins.{Spans, forth, back, spans-far, step, joined-trans}
 use Rattle.feeding.proofs.Lows.{length-tabulate, at-tabulate}
@@ -23,9 +23,13 @@ below c n l = ltb l n && c l
 
 -- ---- one label
 
-relabel-same : (x y z : ℕ) → z ≡ x → relabel x y z ≡ y
+pub relabel-at : (x y : ℕ) → relabel x y x ≡ y
 unfolding relabel
-relabel-same x y z h = rw (eq-eqb z x h)
+relabel-at x y = rw (eq-eqb x x refl)
+
+pub relabel-off : (x y z : ℕ) → (z ≡ x → ⊥) → relabel x y z ≡ z
+unfolding relabel
+relabel-off x y z h = rw (ne-eqb z x h)
 
 relabel-or : (x y z : ℕ) → (relabel x y z ≡ z) ⊎ ((z ≡ x) × (relabel x y z ≡ y))
 unfolding relabel
@@ -41,6 +45,13 @@ relabel-to x y = go (relabel-or x y y)
     go : (relabel x y y ≡ y) ⊎ ((y ≡ x) × (relabel x y y ≡ y)) → relabel x y y ≡ y
     go (inl e) = e
     go (inr e) = e .1
+
+pub relabel-self : (x z : ℕ) → relabel x x z ≡ z
+relabel-self x z = go (relabel-or x x z)
+  where
+    go : (relabel x x z ≡ z) ⊎ ((z ≡ x) × (relabel x x z ≡ x)) → relabel x x z ≡ z
+    go (inl e) = e
+    go (inr e) = e .1 ∙ sym (e .0)
 
 -- two labels that become one: they were one, or they are the two that the link joins
 abbrev Alike : ℕ → ℕ → ℕ → ℕ → Type 0
@@ -77,8 +88,8 @@ unfolding merged
 merged-ends x y = go (leb x y)
   where
     go : (t : Bool) → cond t (relabel y x x) (relabel x y x) ≡ cond t (relabel y x y) (relabel x y y)
-    go true = relabel-to y x ∙ sym (relabel-same y x y refl)
-    go false = relabel-same x y x refl ∙ sym (relabel-to x y)
+    go true = relabel-to y x ∙ sym (relabel-at y x)
+    go false = relabel-at x y ∙ sym (relabel-to x y)
 
 merged-le : (x y z : ℕ) → merged x y z ≤ z
 unfolding merged
@@ -148,6 +159,16 @@ length-merge x y ls = go (leb x y)
     go true = length-map ls _
     go false = length-map ls _
 
+-- one more link, by which of its two labels is the lower
+module _ (ls : List ℕ) (i j e : ℕ) where
+  pub link-low : at ls i ≤ at ls j → at (link i j ls) e ≡ relabel (at ls j) (at ls i) (at ls e)
+  unfolding link merged
+  link-low h = at-merge (at ls i) (at ls j) ls e ∙ rw (le-leb (at ls i) (at ls j) h)
+
+  pub link-high : at ls j < at ls i → at (link i j ls) e ≡ relabel (at ls i) (at ls j) (at ls e)
+  unfolding link merged
+  link-high h = at-merge (at ls i) (at ls j) ls e ∙ rw (lt-leb (at ls i) (at ls j) h)
+
 module _ (m : ℕ) (a b : ℕ → ℕ) (c : Config) where
   pub labels-open : (n : ℕ) → c n ≡ false → labels m a b c (suc n) ≡ labels m a b c n
   unfolding labels
@@ -165,9 +186,9 @@ module _ (m : ℕ) (a b : ℕ → ℕ) (c : Config) where
   at-open : (n e : ℕ) → c n ≡ false → at (labels m a b c (suc n)) e ≡ at (labels m a b c n) e
   at-open n e h = rw (labels-open n h)
 
-  at-start : labels m a b c zero ≡ tabulate m (λ e. e)
+  pub labels-none : labels m a b c zero ≡ tabulate m (λ e. e)
   unfolding labels
-  at-start = refl
+  labels-none = refl
 
   at-none : (e : ℕ) → e < m → at (labels m a b c zero) e ≡ e
   unfolding labels
@@ -182,7 +203,7 @@ module _ (m : ℕ) (a b : ℕ → ℕ) (c : Config) where
       go ih true t = ap length (labels-closed n t) ∙ length-merge _ _ (labels m a b c n) ∙ ih
       go ih false t = ap length (labels-open n t) ∙ ih
 
-  labels-le : (n e : ℕ) → at (labels m a b c n) e ≤ e
+  pub labels-le : (n e : ℕ) → at (labels m a b c n) e ≤ e
   labels-le zero e = go (ltb e m) refl
     where
       go : (t : Bool) → ltb e m ≡ t → at (labels m a b c zero) e ≤ e
@@ -242,7 +263,7 @@ labels-wider m m′ k a b c (suc n) ends e h = go (labels-wider m m′ k a b c n
 -- the labels after n links depend on these only
 pub labels-ext : (m : ℕ) (a a′ b b′ : ℕ → ℕ) (c c′ : Config) (n : ℕ) → ((l : ℕ) → l < n → a l ≡ a′ l) → ((l : ℕ) → l < n → b l ≡ b′ l)
     → ((l : ℕ) → l < n → c l ≡ c′ l) → labels m a b c n ≡ labels m a′ b′ c′ n
-labels-ext m a a′ b b′ c c′ zero p q r = at-start m a b c ∙ sym (at-start m a′ b′ c′)
+labels-ext m a a′ b b′ c c′ zero p q r = labels-none m a b c ∙ sym (labels-none m a′ b′ c′)
 labels-ext m a a′ b b′ c c′ (suc n) p q r =
     go (labels-ext m a a′ b b′ c c′ n (λ l k. p l (omega arith)) (λ l k. q l (omega arith)) (λ l k. r l (omega arith))) (c n) refl
   where
@@ -250,6 +271,16 @@ labels-ext m a a′ b b′ c c′ (suc n) p q r =
     go ih true t = labels-closed m a b c n t
         ∙ rw (p n (omega arith), q n (omega arith), ih) (sym (labels-closed m a′ b′ c′ n (sym (r n (omega arith)) ∙ t)))
     go ih false t = labels-open m a b c n t ∙ ih ∙ sym (labels-open m a′ b′ c′ n (sym (r n (omega arith)) ∙ t))
+
+-- ---- the far element of a link
+
+pub far-lt : (g : Grid) → Formed g → (l e : ℕ) → l < g .K → far g l e < g .E
+unfolding far
+far-lt g formed l e k = go (eqb (g .endA l) e)
+  where
+    go : (t : Bool) → cond t (g .endB l) (g .endA l) < g .E
+    go true = formed .endB-lt l k
+    go false = formed .endA-lt l k
 
 -- ---- one more link
 
@@ -322,13 +353,6 @@ module _ (g : Grid) (formed : Formed g) (c : Config) where
           at-open (g .E) (g .endA) (g .endB) c n (g .endA l) p
           ∙ ih (omega (arith, eqb-false l n q)) e
           ∙ sym (at-open (g .E) (g .endA) (g .endB) c n (g .endB l) p)
-
-  pub far-lt : (l a : ℕ) → l < g .K → touches g l a ≡ true → far g l a < g .E
-  far-lt l a k t = go (spans-far g l a t)
-    where
-      go : Spans g l a (far g l a) → far g l a < g .E
-      go (forth p q) = omega (arith, formed .endB-lt l k)
-      go (back p q) = omega (arith, formed .endA-lt l k)
 
   pub labels-complete : (n : ℕ) → n ≤ g .K → {a d : ℕ} → Joined g (below c n) d a → at (labelsAfter g c n) a ≡ at (labelsAfter g c n) d
   unfolding below

@@ -15,7 +15,6 @@ pub mod Printed
 pub mod States
 pub mod Sums
 pub mod Tests
-pub mod Totals
 pub mod Trees
 pub mod Views
 pub mod Walk

@@ -11,11 +11,12 @@ use Rattle.feeding.specs.Loads.{leads, Fed, at-source, onward, elementLo
 use Rattle.feeding.specs.Networks.{Grid, Formed}
 use Rattle.feeding.specs.Parts.{Config, Joined, here, over, touches, far, Sound, Live}
 use Rattle.feeding.specs.Safety.{without, Safe}
-use Rattle.feeding.proofs.Below.{sumTo-ext, gate-ext}
+use Rattle.feeding.proofs.Below.{gate-ext}
 use Rattle.feeding.proofs.Forest.{Bridges, safe-bridges, without-on}
 use Rattle.feeding.proofs.Joins.{Spans, spans-far, spans-sym, spans-is-far, spans-touches, joined-sym, joined-trans, step}
 use Rattle.feeding.proofs.Labels.{far-lt}
 use Rattle.feeding.proofs.Opening.{joined-mono}
+use Rattle.feeding.proofs.Sums.{sumTo-ext}
 use Rattle.feeding.proofs.Walk.{Came, start, by, came-on, leads-touches, leads-on, leads-ne, leads-in}
 use Rattle.feeding.proofs.Walk.{apart, ahead, room, room-le, room-shrinks, room-pos}
 
@@ -30,7 +31,7 @@ module _ (g : Grid) (formed : Formed g) (c : Config) (bridges : Bridges g c) whe
   same-load (suc (suc d)) (suc zero) e via k came h h′ = absurd (omega (arith, room-pos g formed c e via k))
   same-load (suc (suc d)) (suc (suc d′)) e via k came h h′ =
       ap (λ x. g .load e + x) (sumTo-ext (g .K) _ _ (λ l kl. gate-ext (leads g c e via l) _ _ (λ p.
-      same-load d d′ (far g l e) l (far-lt g formed c l e kl (leads-touches g c e via l p)) (came-on g c e via l kl p)
+      same-load d d′ (far g l e) l (far-lt g formed l e kl) (came-on g c e via l kl p)
       (omega (arith, room-shrinks g formed c bridges e via l k came kl p)) (omega (arith, room-shrinks g formed c bridges e via l k came kl p)))))
 
   -- the load at e is its own and what each closed link away from the source carries; that is the load at the link's far element
@@ -134,7 +135,7 @@ module _ (g : Grid) (c : Config) where
 
   pub fed-in : Formed g → {e via : ℕ} → Fed g c e via → e < g .E
   fed-in formed (at-source s) = s .below
-  fed-in formed (onward {e = e} {via = v} l k h f) = far-lt g formed c l e k (leads-touches g c e v l h)
+  fed-in formed (onward {e = e} {via = v} l k h f) = far-lt g formed l e k
 
   -- the walk that feeds an element, gone back to its source
   pub fed-live : {e via : ℕ} → Fed g c e via → Live g c e

@@ -1,13 +1,13 @@
--- Laws of lowest and highest numbers, least values, picked numbers, tables and sums, by induction on the bound.
+-- Laws of lowest and highest numbers, least values, picked numbers and tables, by induction on the bound.
 -- Assumes nothing.
-use Prim.Native.Nat.{ℕ, zero, suc, _+_, _-_, _≤_, _<_, min}
+use Prim.Native.Nat.{ℕ, zero, suc, _+_, _-_, _*_, _≤_, _<_, min}
 use mathlib.Core.Path.{_≡_, refl, sym, ap, ap₂, _∙_, subst}
 use mathlib.Core.Logic.{_⊎_, inl, inr}
 use mathlib.Core.Bool.{Bool, true, false, _||_, or-true, or-false, true≢false}
 use mathlib.Core.List.{List, [], _∷_, _++_}
 use lib.Dec.{eqb, ltb}
 use lib.ListN.{length, length-append, List·getD-append}
-use lib.Seq.{getD-at}
+use lib.Seq.{ext-getD, getD-at}
 use borrow.Author.Tests.{eqb-true, eqb-false, ltb-true, ltb-false, lt-ltb, le-ltb}
 use native.Mathlib.Nat.{sub-zero}
 use native.Mathlib.Numerals.{add-one}
@@ -38,6 +38,12 @@ pub tabulate-step : (n : ℕ) (f : ℕ → ℕ) → tabulate (n + 1) f ≡ tabul
 unfolding tabulate
 tabulate-step n f = rw add-one
 
+-- a list is the table of its entries
+pub table-ext : (w : ℕ) (f : ℕ → ℕ) (xs : List ℕ) → length xs ≡ w → ((x : ℕ) → x < w → at xs x ≡ f x) → xs ≡ tabulate w f
+table-ext w f xs long h =
+    ext-getD 0 xs (tabulate w f) (long ∙ sym (length-tabulate w f))
+    (λ x k. let b : x < w = omega arith in h x b ∙ sym (at-tabulate w f x b))
+
 -- ---- the lowest
 
 pub lowest-here : (n i : ℕ) (f : ℕ → Bool) → f i ≡ true → lowestFrom (suc n) i f ≡ i
@@ -48,9 +54,21 @@ pub lowest-next : (n i : ℕ) (f : ℕ → Bool) → f i ≡ false → lowestFro
 unfolding lowestFrom
 lowest-next n i f h = rw (h, lowestFrom)
 
-lowest-none : (i : ℕ) (f : ℕ → Bool) → lowestFrom zero i f ≡ i
+pub lowest-none : (i : ℕ) (f : ℕ → Bool) → lowestFrom zero i f ≡ i
 unfolding lowestFrom
 lowest-none i f = refl
+
+pub lowestFrom-ext : (n i : ℕ) (f g : ℕ → Bool) → ((l : ℕ) → l < i + n → f l ≡ g l) → lowestFrom n i f ≡ lowestFrom n i g
+lowestFrom-ext zero i f g h = lowest-none i f ∙ sym (lowest-none i g)
+lowestFrom-ext (suc n) i f g h = go (lowestFrom-ext n (suc i) f g (λ l k. h l (omega arith))) (f i) refl
+  where
+    go : lowestFrom n (suc i) f ≡ lowestFrom n (suc i) g → (t : Bool) → f i ≡ t → lowestFrom (suc n) i f ≡ lowestFrom (suc n) i g
+    go ih true t = lowest-here n i f t ∙ sym (lowest-here n i g (sym (h i (omega arith)) ∙ t))
+    go ih false t = lowest-next n i f t ∙ ih ∙ sym (lowest-next n i g (sym (h i (omega arith)) ∙ t))
+
+pub lowest-ext : (n : ℕ) (f g : ℕ → Bool) → ((l : ℕ) → l < n → f l ≡ g l) → lowest n f ≡ lowest n g
+unfolding lowest
+lowest-ext n f g h = lowestFrom-ext n zero f g (λ l k. h l (omega arith))
 
 -- for a loop on i, below n
 pub lowest-start : (n : ℕ) (f : ℕ → Bool) → lowest n f ≡ lowestFrom (n - 0) 0 f
@@ -68,13 +86,14 @@ lowest-step n i f k h =
 pub lowest-end : (n i : ℕ) (f : ℕ → Bool) → n ≤ i → i ≤ n → lowestFrom (n - i) i f ≡ n
 lowest-end n i f h k = let e : n - i ≡ zero = omega arith in ap (λ d. lowestFrom d i f) e ∙ lowest-none i f ∙ omega arith
 
-record From (n i : ℕ) (f : ℕ → Bool) (x : ℕ) : Type 0 where
-  at-least : i ≤ x
-  at-most : x ≤ i + n
-  has : x < i + n → f x ≡ true
-  none : (y : ℕ) → i ≤ y → y < x → f y ≡ false
+-- what `lowestFrom` says
+pub record From (n i : ℕ) (f : ℕ → Bool) (x : ℕ) : Type 0 where
+  pub at-least : i ≤ x
+  pub at-most : x ≤ i + n
+  pub has : x < i + n → f x ≡ true
+  pub none : (y : ℕ) → i ≤ y → y < x → f y ≡ false
 
-lowestFrom-is : (n i : ℕ) (f : ℕ → Bool) → From n i f (lowestFrom n i f)
+pub lowestFrom-is : (n i : ℕ) (f : ℕ → Bool) → From n i f (lowestFrom n i f)
 lowestFrom-is zero i f =
     rw (lowest-none i f)
     (record { at-least = omega arith; at-most = omega arith; has = λ h. absurd (omega arith); none = λ y h k. absurd (omega arith) })
@@ -138,6 +157,18 @@ lowest-any n f = go (ltb (lowest n f) n) refl (anyTo n f) refl
     go false t true u = let r = anyTo-out n f u in sym (lowest-all n f t (r .0) (r .1)) ∙ r .2
     go false t false u = refl
 
+-- ---- a lowest number is the bound exactly where no number below it has the property
+
+pub none-below : (n : ℕ) (P : ℕ → Type 0) (x : ℕ) → Lowest n P x → ltb x n ≡ false → (e : ℕ) → e < n → ¬ P e
+none-below n P x low h e k = low .none-lower e (omega (arith, ltb-false x n h))
+
+pub none-place : (n : ℕ) (P : ℕ → Type 0) (x : ℕ) → Lowest n P x → ((e : ℕ) → e < n → ¬ P e) → ltb x n ≡ false
+none-place n P x low none = go (ltb x n) refl
+  where
+    go : (t : Bool) → ltb x n ≡ t → t ≡ false
+    go true t = absurd (none x (ltb-true x n t) (low .has (ltb-true x n t)))
+    go false t = refl
+
 -- ---- the highest
 
 pub highest-none : (n z : ℕ) (f : ℕ → Bool) → f n ≡ false → highest (suc n) z f ≡ highest n z f
@@ -186,6 +217,14 @@ highest-is (suc n) z f h k = go (highest-is n z f (omega arith)) (highest-or n z
     go ih (inl e) false t = absurd (omega (arith, highest-none n z f t))
     go ih (inr e) false t = rw (highest-none n z f t) (ih e)
 
+-- a highest number below z passes
+pub highest-passes : (n z : ℕ) (f : ℕ → Bool) → n ≤ z → highest n z f < z → (highest n z f < n) × (f (highest n z f) ≡ true)
+highest-passes n z f h k = go (highest-or n z f)
+  where
+    go : (highest n z f ≡ z) ⊎ (highest n z f < n) → (highest n z f < n) × (f (highest n z f) ≡ true)
+    go (inl e) = absurd (omega arith)
+    go (inr b) = (b, highest-is n z f h b)
+
 -- none above it passes
 pub highest-above : (n z : ℕ) (f : ℕ → Bool) (l : ℕ) → l < n → highest n z f < l → f l ≡ false
 highest-above zero z f l h k = absurd (omega arith)
@@ -196,11 +235,83 @@ highest-above (suc n) z f l h k = go (highest-above n z f l) (f n) refl (eqb l n
     go ih false t true e = ap f (eqb-true l n e) ∙ t
     go ih false t false e = ih (omega (arith, eqb-false l n e)) (omega (arith, highest-none n z f t))
 
--- ---- the least value (its other laws: Totals)
+pub highest-least : (n z : ℕ) (f : ℕ → Bool) (y : ℕ) → y < n → f y ≡ true → y ≤ highest n z f
+highest-least n z f y k e = go (ltb (highest n z f) y) refl
+  where
+    go : (t : Bool) → ltb (highest n z f) y ≡ t → y ≤ highest n z f
+    go true t = absurd (true≢false (sym e ∙ highest-above n z f y k (ltb-true _ y t)))
+    go false t = ltb-false (highest n z f) y t
+
+-- ---- the least value
+
+pub leastTo-no : (z : ℕ) (f : ℕ → ℕ) → leastTo 0 z f ≡ z
+unfolding leastTo
+leastTo-no z f = refl
+
+pub leastTo-more : (z : ℕ) (f : ℕ → ℕ) (n : ℕ) → leastTo (suc n) z f ≡ min (leastTo n z f) (f n)
+unfolding leastTo
+leastTo-more z f n = refl
 
 pub leastTo-step : (n z : ℕ) (f : ℕ → ℕ) → leastTo (n + 1) z f ≡ min (leastTo n z f) (f n)
 unfolding leastTo
 leastTo-step n z f = rw add-one
+
+pub leastTo-ext : (n z : ℕ) (f g : ℕ → ℕ) → ((l : ℕ) → l < n → f l ≡ g l) → leastTo n z f ≡ leastTo n z g
+unfolding leastTo
+leastTo-ext zero z f g h = refl
+leastTo-ext (suc n) z f g h = ap₂ min (leastTo-ext n z f g (λ l k. h l (omega arith))) (h n (omega arith))
+
+-- the least value is at most each of them, and is one of them
+pub leastTo-top : (n z : ℕ) (f : ℕ → ℕ) → leastTo n z f ≤ z
+unfolding leastTo
+leastTo-top zero z f = omega arith
+leastTo-top (suc n) z f = omega (arith, leastTo-top n z f)
+
+pub leastTo-le : (n z : ℕ) (f : ℕ → ℕ) (l : ℕ) → l < n → leastTo n z f ≤ f l
+unfolding leastTo
+leastTo-le zero z f l k = absurd (omega arith)
+leastTo-le (suc n) z f l k = go (leastTo-le n z f l) (ltb l n) refl
+  where
+    go : (l < n → leastTo n z f ≤ f l) → (t : Bool) → ltb l n ≡ t → min (leastTo n z f) (f n) ≤ f l
+    go ih true t = omega (arith, ih (ltb-true l n t))
+    go ih false t = let e : l ≡ n = omega (arith, ltb-false l n t) in omega (arith, ap f e)
+
+pub leastTo-or : (n z : ℕ) (f : ℕ → ℕ) → (leastTo n z f ≡ z) ⊎ ((l : ℕ) × (l < n) × (leastTo n z f ≡ f l))
+unfolding leastTo
+leastTo-or zero z f = inl refl
+leastTo-or (suc n) z f = go (leastTo-or n z f) (ltb (f n) (leastTo n z f)) refl
+  where
+    go : (leastTo n z f ≡ z) ⊎ ((l : ℕ) × (l < n) × (leastTo n z f ≡ f l)) → (t : Bool) → ltb (f n) (leastTo n z f) ≡ t
+        → (min (leastTo n z f) (f n) ≡ z) ⊎ ((l : ℕ) × (l < suc n) × (min (leastTo n z f) (f n) ≡ f l))
+    go ih true t = inr (n, omega arith, omega (arith, ltb-true (f n) (leastTo n z f) t))
+    go (inl e) false t = inl (omega (arith, ltb-false (f n) (leastTo n z f) t))
+    go (inr r) false t = inr (r .0, omega (arith, r .1), omega (arith, r .2, ltb-false (f n) (leastTo n z f) t))
+
+pub leastTo-gap : (z : ℕ) (f : ℕ → ℕ) (i j : ℕ) → i ≤ j → ((k : ℕ) → i ≤ k → k < j → z ≤ f k) → leastTo j z f ≡ leastTo i z f
+leastTo-gap z f i zero h w = let q : 0 ≡ i = omega arith in ap (λ n. leastTo n z f) q
+leastTo-gap z f i (suc j) h w = go (λ k. leastTo-gap z f i j k (λ l a b. w l a (omega arith))) (eqb (suc j) i) refl
+  where
+    go : (i ≤ j → leastTo j z f ≡ leastTo i z f) → (t : Bool) → eqb (suc j) i ≡ t → leastTo (suc j) z f ≡ leastTo i z f
+    go ih true t = ap (λ n. leastTo n z f) (eqb-true (suc j) i t)
+    go ih false t =
+        let k : i ≤ j = omega (arith, eqb-false (suc j) i t) in
+        omega (arith, leastTo-more z f j, ih k, w j k (omega arith), leastTo-top j z f)
+
+pub leastTo-pairs : (z : ℕ) (f h : ℕ → ℕ) (n : ℕ) → ((l : ℕ) → l < n → min (f (2 * l)) (f (2 * l + 1)) ≡ h l) → leastTo (2 * n) z f ≡ leastTo n z h
+leastTo-pairs z f h zero p = leastTo-no z f ∙ sym (leastTo-no z h)
+leastTo-pairs z f h (suc n) p =
+    let two : 2 * suc n ≡ suc (suc (2 * n)) = omega arith in
+    let one : suc (2 * n) ≡ 2 * n + 1 = omega arith in
+    omega (
+      arith,
+      ap (λ m. leastTo m z f) two,
+      leastTo-more z f (suc (2 * n)),
+      leastTo-more z f (2 * n),
+      ap f one,
+      leastTo-more z h n,
+      leastTo-pairs z f h n (λ l k. p l (omega arith)),
+      p n (omega arith),
+    )
 
 -- ---- those that pass
 
@@ -320,32 +431,8 @@ rising-unique (x ∷ xs) (y ∷ ys) r s to from =
     tail-from l m (inl e) = absurd (omega (arith, same, s .0 l m))
     tail-from l m (inr k) = k
 
--- ---- a sum (its other laws: Sums, Totals)
-
-pub sumTo-term : (n : ℕ) (f : ℕ → ℕ) (i : ℕ) → i < n → f i ≤ sumTo n f
-unfolding sumTo
-sumTo-term zero f i h = absurd (omega arith)
-sumTo-term (suc n) f i h = go (sumTo-term n f i) (eqb i n) refl
-  where
-    go : (i < n → f i ≤ sumTo n f) → (t : Bool) → eqb i n ≡ t → f i ≤ sumTo n f + f n
-    go ih true t = rw (eqb-true i n t) (omega arith)
-    go ih false t = omega (arith, ih (omega (arith, eqb-false i n t)))
-
--- ---- equal below the bound
-
 pub those-ext : (n : ℕ) (f g : ℕ → Bool) → ((l : ℕ) → l < n → f l ≡ g l) → those n f ≡ those n g
 unfolding those
 those-ext zero f g h = refl
 those-ext (suc n) f g h =
     ap₂ (λ (b : Bool) (xs : List ℕ). elim b [ true ↦ xs ++ (n ∷ []) | false ↦ xs ]) (h n (omega arith)) (those-ext n f g (λ l k. h l (omega arith)))
-
-pub lowest-ext : (n : ℕ) (f g : ℕ → Bool) → ((l : ℕ) → l < n → f l ≡ g l) → lowest n f ≡ lowest n g
-lowest-ext n f g h =
-    lowest-unique n (λ x. g x ≡ true) (lowest n f) (lowest n g)
-    (lowest-map n (λ x. f x ≡ true) (λ x. g x ≡ true) (lowest n f) (λ e k p. sym (h e k) ∙ p) (λ e k p. h e k ∙ p) (lowest-is n f))
-    (lowest-is n g)
-
-pub leastTo-ext : (n z : ℕ) (f g : ℕ → ℕ) → ((l : ℕ) → l < n → f l ≡ g l) → leastTo n z f ≡ leastTo n z g
-unfolding leastTo
-leastTo-ext zero z f g h = refl
-leastTo-ext (suc n) z f g h = ap₂ min (leastTo-ext n z f g (λ l k. h l (omega arith))) (h n (omega arith))

@@ -1,25 +1,19 @@
 -- Laws of marks, for loops that store them: two lists are equal where they are equally long and agree at each place.
 -- Assumes nothing.
 use Prim.Native.Nat.{ℕ, _+_, _≤_, _<_}
-use mathlib.Core.Path.{_≡_, refl, sym, ap, _∙_}
+use mathlib.Core.Path.{_≡_, refl, ap, _∙_}
 use mathlib.Core.Bool.{Bool, true, false, _&&_, and-false}
 use mathlib.Core.List.{List}
 use lib.Dec.{eqb, ltb}
 use lib.ListN.{length, set, replicate, length-set, length-replicate, getD-replicate, List·getD-eq-default}
-use lib.Seq.{ext-getD, getD-set-same, getD-set-other}
+use lib.Seq.{getD-set-same, getD-set-other}
 use borrow.Author.Tests.{eqb-true, eqb-false, ltb-true, ltb-false, lt-ltb, le-ltb}
 use native.Mathlib.Numerals.{add-one}
 use native.Mathlib.Omega.{arith}
-use Rattle.feeding.specs.Below.{gate, tabulate, marks}
+use Rattle.feeding.specs.Below.{gate, marks}
 use Rattle.feeding.specs.Networks.{at, marked}
-use Rattle.feeding.proofs.Lows.{length-tabulate, at-tabulate}
-use Rattle.feeding.proofs.Sums.{ltb-suc}
-
--- a list is the table of its entries
-pub table-ext : (w : ℕ) (f : ℕ → ℕ) (xs : List ℕ) → length xs ≡ w → ((x : ℕ) → x < w → at xs x ≡ f x) → xs ≡ tabulate w f
-table-ext w f xs long h =
-    ext-getD 0 xs (tabulate w f) (long ∙ sym (length-tabulate w f))
-    (λ x k. let b : x < w = omega arith in h x b ∙ sym (at-tabulate w f x b))
+use Rattle.feeding.proofs.Below.{ltb-suc}
+use Rattle.feeding.proofs.Lows.{length-tabulate, at-tabulate, table-ext}
 
 pub marks-table : (w n : ℕ) (f : ℕ → Bool) (xs : List ℕ) → length xs ≡ w → ((x : ℕ) → x < w → at xs x ≡ gate (ltb x n && f x) 1)
     → xs ≡ marks w n f

@@ -1,16 +1,15 @@
 -- Opening switches keeps a configuration safe: what is joined, fed and carried only shrinks.
 -- Assumes nothing.
-use Prim.Native.Nat.{ℕ, zero, suc, _+_, _*_, _≤_, _<_}
-use mathlib.Core.Path.{_≡_, refl}
-use mathlib.Core.Bool.{Bool, true, false, not, cond, _&&_, _||_}
-use lib.Dec.{eqb}
+use Prim.Native.Nat.{ℕ, zero, suc, _*_, _≤_}
+use mathlib.Core.Path.{_≡_}
+use mathlib.Core.Bool.{true}
 use native.Mathlib.Omega.{arith}
-use Rattle.feeding.specs.Below.{sumTo, gate}
 use Rattle.feeding.specs.Loads.{Fed, at-source, onward, leads, elementLoad, linkLoad}
 use Rattle.feeding.specs.Networks.{Grid}
-use Rattle.feeding.specs.Parts.{Opened, Live, Config, Joined, here, over, touches, far, Sound}
-use Rattle.feeding.specs.Safety.{Tree, Safe, without}
-use Rattle.feeding.proofs.Below.{sumTo-mono, gate-mono, and-left, and-right, and-both}
+use Rattle.feeding.specs.Parts.{Opened, Live, Config, Joined, here, over, far}
+use Rattle.feeding.specs.Safety.{Safe, without}
+use Rattle.feeding.proofs.Below.{gate-mono, and-left, and-right, and-both}
+use Rattle.feeding.proofs.Sums.{sumTo-mono}
 
 module _ (g : Grid) (c′ c : Config) (sub : Opened c′ c) where
   leads-mono : (e via l : ℕ) → leads g c′ e via l ≡ true → leads g c e via l ≡ true
@@ -31,7 +30,11 @@ module _ (g : Grid) (c′ c : Config) (sub : Opened c′ c) where
     pub elementLoad-mono : (d e via : ℕ) → elementLoad g c′ d e via ≤ elementLoad g c d e via
     elementLoad-mono zero e via = omega arith
     elementLoad-mono (suc d) e via =
-        omega (arith, sumTo-mono (g .K) _ _ (λ l k. gate-mono (leads g c′ e via l) (leads g c e via l) (linkLoad g c′ d l e) (linkLoad g c d l e) (leads-mono e via l) (linkLoad-mono d l e)))
+        omega (
+          arith,
+          sumTo-mono (g .K) _ _ (λ l k.
+              gate-mono (leads g c′ e via l) (leads g c e via l) (linkLoad g c′ d l e) (linkLoad g c d l e) (leads-mono e via l) (linkLoad-mono d l e)),
+        )
 
     pub linkLoad-mono : (d l e : ℕ) → linkLoad g c′ d l e ≤ linkLoad g c d l e
     linkLoad-mono zero l e = omega arith

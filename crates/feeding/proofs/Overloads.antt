@@ -13,8 +13,8 @@ use Rattle.feeding.specs.Networks.{Grid, Formed}
 use Rattle.feeding.specs.Parts.{Config, far, Sound, sound?}
 use Rattle.feeding.proofs.Forest.{Bridges}
 use Rattle.feeding.proofs.Load.{same-load, fed-came, fed-in}
+use Rattle.feeding.proofs.Lows.{leastTo-top, leastTo-le, leastTo-or}
 use Rattle.feeding.proofs.Tests.{sound?-in, sound?-out}
-use Rattle.feeding.proofs.Totals.{leastTo-top, leastTo-le, leastTo-or}
 use Rattle.feeding.proofs.Walk.{room, room-le, room-shrinks, room-pos}
 
 above-out : (g : Grid) (e x : ℕ) → above g e x < g .E → (g .capacity e < x) × (above g e x ≡ e)

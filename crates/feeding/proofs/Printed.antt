@@ -12,8 +12,8 @@ use Rattle.feeding.specs.Networks.{Net}
 use Rattle.feeding.specs.Parts.{Config}
 use Rattle.feeding.specs.Plans.{Step, put, run, Good, Valid, costOf, operations, sweep, printedForm, differ, flip, changed, setCost, Pricing}
 use Rattle.feeding.specs.Safety.{Safe}
-use Rattle.feeding.proofs.Below.{and-left, and-right, sumTo-mono, sumTo-ext}
-use Rattle.feeding.proofs.Sums.{ltb-suc, gate-le, sumTo-add, sumTo-none, sumTo-at}
+use Rattle.feeding.proofs.Below.{and-left, and-right, ltb-suc, gate-le}
+use Rattle.feeding.proofs.Sums.{sumTo-add, sumTo-none, sumTo-at, sumTo-mono, sumTo-ext}
 use Rattle.feeding.proofs.Opening.{opening-safe}
 
 -- ---- lists of steps, one behind the other

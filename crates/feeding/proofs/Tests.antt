@@ -5,9 +5,9 @@ use mathlib.Core.Path.{_≡_, refl, sym, ap, _∙_}
 use mathlib.Core.Logic.{_⊎_, inl, inr}
 use mathlib.Core.Bool.{Bool, true, false, not, _&&_, _||_, false≢true}
 use lib.Dec.{eqb, ltb}
-use borrow.Author.Tests.{eqb-false, ne-eqb, ltb-true, lt-ltb, not-true}
+use borrow.Author.Tests.{eqb-true, eqb-false, ne-eqb, ltb-true, lt-ltb, not-true}
 use Rattle.feeding.specs.Below.{anyTo}
-use Rattle.feeding.specs.Networks.{Grid, Net, Formed}
+use Rattle.feeding.specs.Networks.{Grid, Net, Formed, isSource, isFaulty}
 use Rattle.feeding.specs.Parts.{Config, touches, far, Joined, here, over, Sound, Live, joined?, sound?, live?}
 use Rattle.feeding.specs.Restoration.{Spoiled, Restorable, itself, beside, Waits, Operable, Restored}
 use Rattle.feeding.specs.Restoration.{spoiled?, clean, restorable?, waits?, operable?, restored?}
@@ -25,15 +25,22 @@ pub sound?-out : (g : Grid) (s : ℕ) → s < g .E → sound? g s ≡ true → S
 unfolding sound?
 sound?-out g s k h = record { below = k; source = and-left (g .source s) _ h; sound = not-true _ (and-right (g .source s) _ h) }
 
+not-both : (x y : Bool) → (x && not (y || x)) ≡ false
+not-both true true = refl
+not-both true false = refl
+not-both false y = refl
+
+-- flags 1: a source that is not faulty
+pub sound-flag : (f : ℕ) → eqb f 1 ≡ (isSource f && not (isFaulty f))
+sound-flag f = go (eqb f 1) refl
+  where
+    go : (t : Bool) → eqb f 1 ≡ t → eqb f 1 ≡ (isSource f && not (isFaulty f))
+    go true e = rw (eqb-true f 1 e)
+    go false e = rw e (sym (not-both (eqb f 3) (eqb f 2)))
+
 -- ---- in a configuration
 
 module _ (g : Grid) (formed : Formed g) (c : Config) where
-  pub live?-in : (e : ℕ) → Live g c e → live? g c e ≡ true
-  unfolding live?
-  live?-in e r =
-      anyTo-in (g .E) _ (r .source) (r .sound .below)
-      (and-both (sound? g (r .source)) _ (sound?-in g _ (r .sound)) (joined?-complete g formed c (r .source) e (r .joined)))
-
   pub live?-out : (e : ℕ) → e < g .E → live? g c e ≡ true → Live g c e
   unfolding live?
   live?-out e k h = go (anyTo-out (g .E) _ h)
@@ -44,6 +51,12 @@ module _ (g : Grid) (formed : Formed g) (c : Config) where
         sound = sound?-out g s b (and-left (sound? g s) _ p);
         joined = joined?-sound g formed c s e b k (and-right (sound? g s) _ p);
       }
+
+  pub live?-in : (e : ℕ) → Live g c e → live? g c e ≡ true
+  unfolding live?
+  live?-in e r =
+      anyTo-in (g .E) _ (r .source) (r .sound .below)
+      (and-both (sound? g (r .source)) _ (sound?-in g _ (r .sound)) (joined?-complete g formed c (r .source) e (r .joined)))
 
   pub dark-out : (e : ℕ) → e < g .E → live? g c e ≡ false → ¬ Live g c e
   dark-out e k h r = false≢true (sym h ∙ live?-in e r)
@@ -154,7 +167,7 @@ module _ (net : Net) (formed : Formed (net .grid)) where
   way : {e : ℕ} → e < net .grid .E → Restorable net e → Way e
   way k (itself {s = s} b p u) =
       record { from = s; below = b; source = p; clear = unspoiled-in s b u; joined = here; own = unspoiled-in s b u }
-  way k (beside {e = e} l kl t u r) = go (way (far-lt (net .grid) formed (clean net) l e kl t) r)
+  way k (beside {e = e} l kl t u r) = go (way (far-lt (net .grid) formed l e kl) r)
     where
       go : Way (far (net .grid) l e) → Way e
       go w = record {

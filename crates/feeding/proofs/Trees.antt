@@ -24,21 +24,6 @@ unfoldable inPart : Grid → Config → ℕ → Config
 inPart g c e l = c l && joined? g c e (g .endA l)
 
 module _ (g : Grid) (formed : Formed g) (c : Config) (e : ℕ) where
-  pub looped-out : e < g .E → looped? g c e ≡ true → ¬ Tree g c e
-  unfolding looped? loopAt
-  looped-out k h tree = go (anyTo-out (g .K) (λ l. loopAt g c l && joined? g c e (g .endA l)) h)
-    where
-      go : (l : ℕ) × (l < g .K) × ((loopAt g c l && joined? g c e (g .endA l)) ≡ true) → ⊥
-      go r =
-          let l : ℕ = r .0 in
-          let kl : l < g .K = r .1 in
-          let loop : loopAt g c l ≡ true = and-left (loopAt g c l) _ (r .2) in
-          let part : joined? g c e (g .endA l) ≡ true = and-right (loopAt g c l) _ (r .2) in
-          let same = eqb-true (at (labelsAfter g c l) (g .endA l)) (at (labelsAfter g c l) (g .endB l)) (and-right (c l) _ loop) in
-          tree l kl (and-left (c l) _ loop) (joined?-sound g formed c e (g .endA l) k (formed .endA-lt l kl) part)
-          (joined-mono g (below c l) (without c l) (λ m b. without-in c l m (below-on c l m b) (λ q. omega (arith, below-out c l m b)))
-          (labels-sound g formed c l (omega arith) (g .endA l) (g .endB l) (formed .endA-lt l kl) (formed .endB-lt l kl) same))
-
   inPart-on : (l : ℕ) → inPart g c e l ≡ true → c l ≡ true
   unfolding inPart
   inPart-on l h = and-left (c l) _ h
@@ -74,3 +59,18 @@ module _ (g : Grid) (formed : Formed g) (c : Config) (e : ℕ) where
 
   pub looped-in : looped? g c e ≡ false → Tree g c e
   looped-in h l k on i j = grows-tree g (inPart g c e) (grows h) l k (inPart-in l on i) (stays l i j)
+
+  pub looped-out : e < g .E → looped? g c e ≡ true → ¬ Tree g c e
+  unfolding looped? loopAt
+  looped-out k h tree = go (anyTo-out (g .K) (λ l. loopAt g c l && joined? g c e (g .endA l)) h)
+    where
+      go : (l : ℕ) × (l < g .K) × ((loopAt g c l && joined? g c e (g .endA l)) ≡ true) → ⊥
+      go r =
+          let l : ℕ = r .0 in
+          let kl : l < g .K = r .1 in
+          let loop : loopAt g c l ≡ true = and-left (loopAt g c l) _ (r .2) in
+          let part : joined? g c e (g .endA l) ≡ true = and-right (loopAt g c l) _ (r .2) in
+          let same = eqb-true (at (labelsAfter g c l) (g .endA l)) (at (labelsAfter g c l) (g .endB l)) (and-right (c l) _ loop) in
+          tree l kl (and-left (c l) _ loop) (joined?-sound g formed c e (g .endA l) k (formed .endA-lt l kl) part)
+          (joined-mono g (below c l) (without c l) (λ m b. without-in c l m (below-on c l m b) (λ q. omega (arith, below-out c l m b)))
+          (labels-sound g formed c l (omega arith) (g .endA l) (g .endB l) (formed .endA-lt l kl) (formed .endB-lt l kl) same))

@@ -1,6 +1,6 @@
 -- Where every closed link is a bridge, what lies ahead shrinks with each link gone over, so a walk ends within E elements.
 -- Assumes nothing.
-use Prim.Native.Nat.{ℕ, zero, suc, _≤_, _<_}
+use Prim.Native.Nat.{ℕ, zero, _≤_, _<_}
 use mathlib.Core.Path.{_≡_, refl, sym, ap, _∙_, subst}
 use mathlib.Core.Logic.{_⊎_, inl, inr}
 use mathlib.Core.Bool.{Bool, true, false, not}
@@ -12,11 +12,12 @@ use Rattle.feeding.specs.Loads.{leads}
 use Rattle.feeding.specs.Networks.{Grid, Formed}
 use Rattle.feeding.specs.Parts.{Config, Joined, here, over, touches, far, joined?}
 use Rattle.feeding.specs.Safety.{without}
-use Rattle.feeding.proofs.Below.{sumTo-strict, gate-mono, and-left, and-right, and-both, not-in}
+use Rattle.feeding.proofs.Below.{gate-mono, gate-le, and-left, and-right, and-both, not-in}
 use Rattle.feeding.proofs.Forest.{Bridges, Crossing, split, without-on, without-ne, without-in}
 use Rattle.feeding.proofs.Joins.{Spans, forth, back, spans-far, spans-sym, spans-touches, step, joined-trans, joined-sym}
 use Rattle.feeding.proofs.Labels.{joined?-sound, joined?-complete, far-lt}
 use Rattle.feeding.proofs.Opening.{joined-mono}
+use Rattle.feeding.proofs.Sums.{sumTo-strict, sumTo-below}
 
 -- how e was come to
 pub data Came (g : Grid) (c : Config) (e via : ℕ) : Type 0 where
@@ -116,18 +117,12 @@ module _ (g : Grid) (c : Config) (bridges : Bridges g c) where
 unfoldable pub room : Grid → Config → ℕ → ℕ → ℕ
 room g c e via = sumTo (g .E) (λ x. gate (joined? g (without c via) x e) 1)
 
-gate-one : (b : Bool) → gate b 1 ≤ 1
-gate-one true = omega arith
-gate-one false = omega arith
-
-sumTo-count : (n : ℕ) (f : ℕ → Bool) → sumTo n (λ x. gate (f x) 1) ≤ n
-unfolding sumTo
-sumTo-count zero f = omega arith
-sumTo-count (suc n) f = omega (arith, sumTo-count n f, gate-one (f n))
-
 pub room-le : (g : Grid) (c : Config) (e via : ℕ) → room g c e via ≤ g .E
 unfolding room
-room-le g c e via = sumTo-count (g .E) (λ x. joined? g (without c via) x e)
+room-le g c e via = omega (
+  arith,
+  sumTo-below 1 (λ x. gate (joined? g (without c via) x e) 1) (g .E) (λ x _. gate-le (joined? g (without c via) x e) 1),
+)
 
 module _ (g : Grid) (formed : Formed g) (c : Config) (bridges : Bridges g c) where
   pub room-shrinks : (e via l : ℕ) → e < g .E → Came g c e via → l < g .K → leads g c e via l ≡ true → room g c (far g l e) l < room g c e via
@@ -142,7 +137,7 @@ module _ (g : Grid) (formed : Formed g) (c : Config) (bridges : Bridges g c) whe
       b = far g l e
 
       kb : b < g .E
-      kb = far-lt g formed c l e k (leads-touches g c e via l h)
+      kb = far-lt g formed l e k
 
       parted : joined? g (without c l) e b ≡ false
       parted = not-true _ (not-in _ (λ p. apart g c bridges l e b k (leads-on g c e via l h) (spans-far g l e (leads-touches g c e via l h))

@@ -7,7 +7,7 @@ use lib.Dec.{eqb, ltb}
 use Rattle.feeding.specs.Below.{anyTo, lowest}
 use Rattle.feeding.specs.Networks.{Grid, at}
 use Rattle.feeding.specs.Parts.{Config, Joined, Sound, Live, labelsAfter, joined?, sound?, live?}
-use Rattle.feeding.specs.Loads.{Fed, loadAt, Overloaded, lowestOver}
+use Rattle.feeding.specs.Loads.{Fed, loadAt, lowestOver}
 
 -- the configuration with the link l open
 unfoldable pub without : Config → ℕ → Config

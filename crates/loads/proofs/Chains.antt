@@ -1,64 +1,15 @@
 -- The chain of an element's own ends: an end of the chain is at the element, and between one and the next no end is; by how `lowestFrom` steps.
 -- Assumes nothing.
-use Prim.Native.Nat.{ℕ, zero, suc, _+_, _-_, _*_, _/_, _%_, _≤_, _<_}
+use Prim.Native.Nat.{ℕ, suc, _+_, _-_, _*_, _/_, _%_, _≤_, _<_}
 use mathlib.Core.Path.{_≡_, refl, sym, ap, _∙_}
-use mathlib.Core.Bool.{Bool, true, false, _&&_}
+use mathlib.Core.Bool.{Bool, true, false, _&&_, and-false}
 use lib.Dec.{eqb, ltb}
-use borrow.Author.Tests.{eqb-true, eqb-false, eq-eqb, ne-eqb, ltb-true, ltb-false, lt-ltb, le-ltb}
+use borrow.Author.Tests.{eqb-true, eq-eqb, ne-eqb, ltb-true, ltb-false, lt-ltb, le-ltb}
 use native.Mathlib.Omega.{arith}
 use Rattle.feeding.specs.Below.{lowestFrom}
 use Rattle.feeding.proofs.Below.{and-left, and-right, and-both}
+use Rattle.feeding.proofs.Lows.{lowest-here, lowest-next, lowest-none, lowestFrom-is}
 use Rattle.loads.specs.Ends.{endAt, ownEnd}
-
--- ---- the lowest from i on
-
-pub lowestFrom-in : (n i : ℕ) (f : ℕ → Bool) → f i ≡ true → lowestFrom (suc n) i f ≡ i
-unfolding lowestFrom
-lowestFrom-in n i f h = rw (h, lowestFrom)
-
-pub lowestFrom-out : (n i : ℕ) (f : ℕ → Bool) → f i ≡ false → lowestFrom (suc n) i f ≡ lowestFrom n (suc i) f
-unfolding lowestFrom
-lowestFrom-out n i f h = rw (h, lowestFrom)
-
-pub lowestFrom-stop : (i : ℕ) (f : ℕ → Bool) → lowestFrom zero i f ≡ i
-unfolding lowestFrom
-lowestFrom-stop i f = refl
-
-pub lowestFrom-le : (n i : ℕ) (f : ℕ → Bool) → lowestFrom n i f ≤ i + n
-lowestFrom-le zero i f = omega (arith, lowestFrom-stop i f)
-lowestFrom-le (suc n) i f = go (lowestFrom-le n (suc i) f) (f i) refl
-  where
-    go : lowestFrom n (suc i) f ≤ suc i + n → (t : Bool) → f i ≡ t → lowestFrom (suc n) i f ≤ i + suc n
-    go ih true t = omega (arith, lowestFrom-in n i f t)
-    go ih false t = omega (arith, lowestFrom-out n i f t)
-
-pub lowestFrom-ge : (n i : ℕ) (f : ℕ → Bool) → i ≤ lowestFrom n i f
-lowestFrom-ge zero i f = omega (arith, lowestFrom-stop i f)
-lowestFrom-ge (suc n) i f = go (lowestFrom-ge n (suc i) f) (f i) refl
-  where
-    go : suc i ≤ lowestFrom n (suc i) f → (t : Bool) → f i ≡ t → i ≤ lowestFrom (suc n) i f
-    go ih true t = omega (arith, lowestFrom-in n i f t)
-    go ih false t = omega (arith, lowestFrom-out n i f t)
-
-pub lowestFrom-has : (n i : ℕ) (f : ℕ → Bool) → lowestFrom n i f < i + n → f (lowestFrom n i f) ≡ true
-lowestFrom-has zero i f h = absurd (omega (arith, lowestFrom-stop i f))
-lowestFrom-has (suc n) i f h = go (lowestFrom-has n (suc i) f) (f i) refl
-  where
-    go : (lowestFrom n (suc i) f < suc i + n → f (lowestFrom n (suc i) f) ≡ true) → (t : Bool) → f i ≡ t → f (lowestFrom (suc n) i f) ≡ true
-    go ih true t = ap f (lowestFrom-in n i f t) ∙ t
-    go ih false t = ap f (lowestFrom-out n i f t) ∙ ih (omega (arith, lowestFrom-out n i f t))
-
-pub lowestFrom-none : (n i : ℕ) (f : ℕ → Bool) (k : ℕ) → i ≤ k → k < lowestFrom n i f → f k ≡ false
-lowestFrom-none zero i f k a b = absurd (omega (arith, lowestFrom-stop i f))
-lowestFrom-none (suc n) i f k a b = go (lowestFrom-none n (suc i) f k) (f i) refl
-  where
-    go : (suc i ≤ k → k < lowestFrom n (suc i) f → f k ≡ false) → (t : Bool) → f i ≡ t → f k ≡ false
-    go ih true t = absurd (omega (arith, lowestFrom-in n i f t))
-    go ih false t = pick (eqb i k) refl
-      where
-        pick : (u : Bool) → eqb i k ≡ u → f k ≡ false
-        pick true u = ap f (sym (eqb-true i k u)) ∙ t
-        pick false u = ih (omega (arith, eqb-false i k u)) (omega (arith, lowestFrom-out n i f t))
 
 -- ---- the ends of a link
 
@@ -90,11 +41,7 @@ module _ (a b : ℕ → ℕ) (n e : ℕ) where
 
   pub own-no : (j : ℕ) → (endAt a b j ≡ e → ⊥) → own a b n e j ≡ false
   unfolding own
-  own-no j h = rw (ne-eqb (endAt a b j) e h) (go (ltb j (2 * n)))
-    where
-      go : (t : Bool) → (t && false) ≡ false
-      go true = refl
-      go false = refl
+  own-no j h = rw (ne-eqb (endAt a b j) e h) (and-false (ltb j (2 * n)))
 
   pub own-past : (j : ℕ) → 2 * n ≤ j → own a b n e j ≡ false
   unfolding own
@@ -116,25 +63,25 @@ module _ (a b : ℕ → ℕ) (n e : ℕ) where
   more i h = omega arith
 
   pub ownEnd-in : (i : ℕ) → i < 192 → own a b n e i ≡ true → ownEnd a b n e i ≡ i
-  ownEnd-in i h q = ownEnd-is i ∙ rw (more i h) (lowestFrom-in (192 - suc i) i (own a b n e) q)
+  ownEnd-in i h q = ownEnd-is i ∙ rw (more i h) (lowest-here (192 - suc i) i (own a b n e) q)
 
   pub ownEnd-out : (i : ℕ) → i < 192 → own a b n e i ≡ false → ownEnd a b n e i ≡ ownEnd a b n e (suc i)
-  ownEnd-out i h q = ownEnd-is i ∙ rw (more i h) (lowestFrom-out (192 - suc i) i (own a b n e) q) ∙ sym (ownEnd-is (suc i))
+  ownEnd-out i h q = ownEnd-is i ∙ rw (more i h) (lowest-next (192 - suc i) i (own a b n e) q) ∙ sym (ownEnd-is (suc i))
 
   pub ownEnd-stop : ownEnd a b n e 192 ≡ 192
-  ownEnd-stop = ownEnd-is 192 ∙ lowestFrom-stop 192 (own a b n e)
+  ownEnd-stop = ownEnd-is 192 ∙ lowest-none 192 (own a b n e)
 
   pub ownEnd-le : (i : ℕ) → i ≤ 192 → ownEnd a b n e i ≤ 192
-  ownEnd-le i h = omega (arith, ownEnd-is i, lowestFrom-le (192 - i) i (own a b n e))
+  ownEnd-le i h = omega (arith, ownEnd-is i, lowestFrom-is (192 - i) i (own a b n e) .at-most)
 
   pub ownEnd-ge : (i : ℕ) → i ≤ ownEnd a b n e i
-  ownEnd-ge i = omega (arith, ownEnd-is i, lowestFrom-ge (192 - i) i (own a b n e))
+  ownEnd-ge i = omega (arith, ownEnd-is i, lowestFrom-is (192 - i) i (own a b n e) .at-least)
 
   pub ownEnd-has : (i : ℕ) → i ≤ 192 → ownEnd a b n e i < 192 → own a b n e (ownEnd a b n e i) ≡ true
-  ownEnd-has i h k = ap (own a b n e) (ownEnd-is i) ∙ lowestFrom-has (192 - i) i (own a b n e) (omega (arith, ownEnd-is i))
+  ownEnd-has i h k = ap (own a b n e) (ownEnd-is i) ∙ lowestFrom-is (192 - i) i (own a b n e) .has (omega (arith, ownEnd-is i))
 
   pub ownEnd-none : (i k : ℕ) → i ≤ k → k < ownEnd a b n e i → own a b n e k ≡ false
-  ownEnd-none i k h q = lowestFrom-none (192 - i) i (own a b n e) k h (omega (arith, ownEnd-is i))
+  ownEnd-none i k h q = lowestFrom-is (192 - i) i (own a b n e) .none k h (omega (arith, ownEnd-is i))
 
   -- past the ends there is none more
   pub ownEnd-past : (i : ℕ) → 2 * n ≤ i → i ≤ 192 → ownEnd a b n e i ≡ 192

@@ -2,16 +2,18 @@
 -- Assumes nothing.
 use Prim.Native.Nat.{ℕ, zero, suc, _+_, _*_, _/_, _≤_, _<_, min}
 use mathlib.Core.Path.{_≡_, refl, sym, ap, _∙_, subst}
-use mathlib.Core.Bool.{Bool, true, false, not, cond, _&&_, _||_}
+use mathlib.Core.Bool.{Bool, true, false, not, _&&_, _||_, and-false}
 use lib.Dec.{eqb, leb}
-use borrow.Author.Tests.{eqb-true, eqb-false, eq-eqb, ne-eqb, lt-ltb, le-leb, lt-leb}
+use borrow.Author.Tests.{eqb-true, eq-eqb, ne-eqb, lt-ltb, le-leb, lt-leb}
 use native.Mathlib.Omega.{arith}
 use Rattle.feeding.specs.Below.{gate, sumTo, leastTo}
 use Rattle.feeding.specs.Networks.{Grid, Formed}
 use Rattle.feeding.specs.Parts.{Config, touches, far}
 use Rattle.feeding.specs.Loads.{leads, elementLoad, linkLoad, above, elementOver, linkOver}
-use Rattle.feeding.proofs.Below.{and-both}
-use Rattle.feeding.proofs.Totals.{leastTo-top}
+use Rattle.feeding.proofs.Below.{and-both, orElse}
+use Rattle.feeding.proofs.Labels.{far-lt}
+use Rattle.feeding.proofs.Lows.{leastTo-no, leastTo-more, leastTo-top, leastTo-gap, leastTo-pairs}
+use Rattle.feeding.proofs.Sums.{sumTo-no, sumTo-more, sumTo-gap, sumTo-grows, sumTo-pairs}
 use Rattle.loads.specs.Ends.{endAt, ownEnd}
 use Rattle.loads.specs.Walks.{lowerOver, elementCarried, linkCarried}
 use Rattle.loads.proofs.Chains.{end-first, end-second, own, own-below, own-at, own-past}
@@ -27,87 +29,7 @@ pub lower-above : (e x cap over : ℕ) → cap < x → lowerOver e x cap over �
 unfolding lowerOver
 lower-above e x cap over h = rw (lt-leb x cap h, lowerOver)
 
--- ---- sums and least values over gaps and pairs
-
-pub sumTo-more : (f : ℕ → ℕ) (n : ℕ) → sumTo (suc n) f ≡ sumTo n f + f n
-unfolding sumTo
-sumTo-more f n = refl
-
-pub leastTo-more : (z : ℕ) (f : ℕ → ℕ) (n : ℕ) → leastTo (suc n) z f ≡ min (leastTo n z f) (f n)
-unfolding leastTo
-leastTo-more z f n = refl
-
-pub sumTo-no : (f : ℕ → ℕ) → sumTo 0 f ≡ 0
-unfolding sumTo
-sumTo-no f = refl
-
-pub leastTo-no : (z : ℕ) (f : ℕ → ℕ) → leastTo 0 z f ≡ z
-unfolding leastTo
-leastTo-no z f = refl
-
-pub sumTo-gap : (f : ℕ → ℕ) (i j : ℕ) → i ≤ j → ((k : ℕ) → i ≤ k → k < j → f k ≡ 0) → sumTo j f ≡ sumTo i f
-sumTo-gap f i zero h z = let q : 0 ≡ i = omega arith in ap (λ n. sumTo n f) q
-sumTo-gap f i (suc j) h z = go (λ k. sumTo-gap f i j k (λ l a b. z l a (omega arith))) (eqb (suc j) i) refl
-  where
-    go : (i ≤ j → sumTo j f ≡ sumTo i f) → (t : Bool) → eqb (suc j) i ≡ t → sumTo (suc j) f ≡ sumTo i f
-    go ih true t = ap (λ n. sumTo n f) (eqb-true (suc j) i t)
-    go ih false t = omega (arith, sumTo-more f j, ih (omega (arith, eqb-false (suc j) i t)), z j (omega (arith, eqb-false (suc j) i t)) (omega arith))
-
-pub leastTo-gap : (z : ℕ) (f : ℕ → ℕ) (i j : ℕ) → i ≤ j → ((k : ℕ) → i ≤ k → k < j → z ≤ f k) → leastTo j z f ≡ leastTo i z f
-leastTo-gap z f i zero h w = let q : 0 ≡ i = omega arith in ap (λ n. leastTo n z f) q
-leastTo-gap z f i (suc j) h w = go (λ k. leastTo-gap z f i j k (λ l a b. w l a (omega arith))) (eqb (suc j) i) refl
-  where
-    go : (i ≤ j → leastTo j z f ≡ leastTo i z f) → (t : Bool) → eqb (suc j) i ≡ t → leastTo (suc j) z f ≡ leastTo i z f
-    go ih true t = ap (λ n. leastTo n z f) (eqb-true (suc j) i t)
-    go ih false t =
-        let k : i ≤ j = omega (arith, eqb-false (suc j) i t) in
-        omega (arith, leastTo-more z f j, ih k, w j k (omega arith), leastTo-top j z f)
-
-pub sumTo-grows : (f : ℕ → ℕ) (i j : ℕ) → i ≤ j → sumTo i f ≤ sumTo j f
-sumTo-grows f i zero h = let q : i ≡ 0 = omega arith in rw q (omega arith)
-sumTo-grows f i (suc j) h = go (λ k. sumTo-grows f i j k) (eqb (suc j) i) refl
-  where
-    go : (i ≤ j → sumTo i f ≤ sumTo j f) → (t : Bool) → eqb (suc j) i ≡ t → sumTo i f ≤ sumTo (suc j) f
-    go ih true t = omega (arith, ap (λ n. sumTo n f) (eqb-true (suc j) i t))
-    go ih false t = omega (arith, sumTo-more f j, ih (omega (arith, eqb-false (suc j) i t)))
-
-pub sumTo-pairs : (f h : ℕ → ℕ) (n : ℕ) → ((l : ℕ) → l < n → f (2 * l) + f (2 * l + 1) ≡ h l) → sumTo (2 * n) f ≡ sumTo n h
-sumTo-pairs f h zero p = sumTo-no f ∙ sym (sumTo-no h)
-sumTo-pairs f h (suc n) p =
-    let two : 2 * suc n ≡ suc (suc (2 * n)) = omega arith in
-    let one : suc (2 * n) ≡ 2 * n + 1 = omega arith in
-    omega (
-      arith,
-      ap (λ m. sumTo m f) two,
-      sumTo-more f (suc (2 * n)),
-      sumTo-more f (2 * n),
-      ap f one,
-      sumTo-more h n,
-      sumTo-pairs f h n (λ l k. p l (omega arith)),
-      p n (omega arith),
-    )
-
-pub leastTo-pairs : (z : ℕ) (f h : ℕ → ℕ) (n : ℕ) → ((l : ℕ) → l < n → min (f (2 * l)) (f (2 * l + 1)) ≡ h l) → leastTo (2 * n) z f ≡ leastTo n z h
-leastTo-pairs z f h zero p = leastTo-no z f ∙ sym (leastTo-no z h)
-leastTo-pairs z f h (suc n) p =
-    let two : 2 * suc n ≡ suc (suc (2 * n)) = omega arith in
-    let one : suc (2 * n) ≡ 2 * n + 1 = omega arith in
-    omega (
-      arith,
-      ap (λ m. leastTo m z f) two,
-      leastTo-more z f (suc (2 * n)),
-      leastTo-more z f (2 * n),
-      ap f one,
-      leastTo-more z h n,
-      leastTo-pairs z f h n (λ l k. p l (omega arith)),
-      p n (omega arith),
-    )
-
 -- ---- what an own end adds
-
--- x where the test passed, else z
-abbrev pub orElse : ℕ → Bool → ℕ → ℕ
-orElse z b x = elim b [ true ↦ x | false ↦ z ]
 
 -- the end i is at e, and its link leads on
 unfoldable pub leadEnd : Grid → Config → (e via : ℕ) → ℕ → Bool
@@ -171,14 +93,6 @@ module _ (g : Grid) (c : Config) where
   over-more d e via = refl
 
   -- no number found is above E
-  pub far-below : Formed g → (l e : ℕ) → l < g .K → far g l e < g .E
-  unfolding far
-  far-below formed l e k = go (eqb (g .endA l) e)
-    where
-      go : (t : Bool) → cond t (g .endB l) (g .endA l) < g .E
-      go true = formed .endB-lt l k
-      go false = formed .endA-lt l k
-
   over-top : (d e via : ℕ) → e < g .E → elementOver g c d e via ≤ g .E
   over-top zero e via h = omega (arith, over-none e via, above-top g e (g .load e) (omega arith))
   over-top (suc d) e via h = omega (
@@ -190,7 +104,7 @@ module _ (g : Grid) (c : Config) where
   link-top : Formed g → (d l e : ℕ) → l < g .K → linkOver g c d l e ≤ g .E
   unfolding linkOver
   link-top formed zero l e k = omega arith
-  link-top formed (suc d) l e k = over-top d (far g l e) l (far-below formed l e k)
+  link-top formed (suc d) l e k = over-top d (far g l e) l (far-lt g formed l e k)
 
   lead-first : (e via l : ℕ) → l < g .K → leadEnd g c e via (2 * l) ≡ (eqb (g .endA l) e && (c l && not (eqb l via)))
   unfolding leadEnd own
@@ -316,11 +230,7 @@ module _ (g : Grid) (formed : Formed g) (c : Config) (d e via : ℕ) where
 
     lead-not : (c (j / 2) && not (eqb (j / 2) via)) ≡ false → leadEnd g c e via j ≡ false
     unfolding leadEnd
-    lead-not h = rw h (go (own (g .endA) (g .endB) (g .K) e j))
-      where
-        go : (t : Bool) → (t && false) ≡ false
-        go true = refl
-        go false = refl
+    lead-not h = rw h (and-false (own (g .endA) (g .endB) (g .K) e j))
 
     load-not : (c (j / 2) && not (eqb (j / 2) via)) ≡ false → endLoad g c d e via j ≡ 0
     unfolding endLoad
@@ -341,11 +251,7 @@ module _ (g : Grid) (formed : Formed g) (c : Config) (d e via : ℕ) where
     walked-open j′ h q = walked-past j′ (rw h) q
 
     pub walked-via : (j′ : ℕ) → j / 2 ≡ via → j′ ≡ ownEnd (g .endA) (g .endB) (g .K) e (suc j) → Walked g c d e via sum over j′
-    walked-via j′ h q = walked-past j′ (go (c (j / 2)) (eq-eqb (j / 2) via h)) q
-      where
-        go : (t : Bool) → eqb (j / 2) via ≡ true → (t && not (eqb (j / 2) via)) ≡ false
-        go true p = rw p
-        go false p = refl
+    walked-via j′ h q = walked-past j′ (rw (eq-eqb (j / 2) via h) (and-false (c (j / 2)))) q
 
     -- no partial sum is above the whole
     pub walked-room : g .K ≤ 96 → c (j / 2) ≡ true → (j / 2 ≡ via → ⊥) → sum + linkLoad g c d (j / 2) e ≤ elementLoad g c (suc d) e via

@@ -1,42 +1,31 @@
 -- A walk sees of a grid only its ends, loads and capacities below its bounds, so over a network's chained ends it finds what the network's grid has.
 -- Assumes nothing.
-use Prim.Native.Nat.{ℕ, zero, suc, _+_, _-_, _*_, _/_, _%_, _≤_, _<_, _^_}
+use Prim.Native.Nat.{ℕ, suc, _+_, _-_, _*_, _/_, _%_, _≤_, _<_, _^_}
 use mathlib.Core.Path.{_≡_, refl, sym, ap, _∙_}
 use mathlib.Core.Bool.{Bool, true, false, _&&_}
 use mathlib.Core.List.{List}
-use lib.Dec.{eqb, ltb, leb}
+use lib.Dec.{eqb, ltb}
 use lib.ListN.{length}
 use borrow.Author.Tests.{eqb-true, eqb-false, lt-ltb, ltb-true}
 use native.Mathlib.Omega.{arith}
-use Rattle.feeding.specs.Below.{gate, sumTo, leastTo, lowestFrom}
-use Rattle.feeding.specs.Networks.{Grid, Formed, at, gridOf}
-use Rattle.feeding.specs.Parts.{Config, touches, far, sound?}
-use Rattle.feeding.specs.Loads.{leads, elementLoad, linkLoad, above, elementOver, linkOver, lowestOver}
+use Rattle.feeding.specs.Below.{gate}
+use Rattle.feeding.specs.Networks.{Formed, at, gridOf}
+use Rattle.feeding.specs.Parts.{Config, sound?}
+use Rattle.feeding.specs.Loads.{elementLoad, elementOver, lowestOver}
 use Rattle.feeding.specs.Restoration.{totalLoad}
-use Rattle.feeding.proofs.Below.{sumTo-ext}
+use Rattle.feeding.proofs.Below.{orElse}
 use Rattle.feeding.proofs.Forest.{Bridges}
 use Rattle.feeding.proofs.Hanging.{load-at-most}
-use Rattle.feeding.proofs.Lows.{length-tabulate, at-tabulate}
+use Rattle.feeding.proofs.Lows.{length-tabulate, at-tabulate, leastTo-ext, lowestFrom-ext}
+use Rattle.feeding.proofs.States.{Alike, elementLoad-alike, elementOver-alike}
+use Rattle.feeding.proofs.Sums.{sumTo-below}
 use Rattle.feeding.proofs.Walk.{start}
 use Rattle.loads.specs.Ends.{TwoEnds, endAt, farAt, ownEnd, ownEnds}
 use Rattle.loads.specs.Walks.{endsA, endsB, walkGrid, Lent, Carries, overPlace}
 use Rattle.loads.specs.declared.OwnEnds.{OwnEnds}
-use Rattle.loads.proofs.Chains.{lowestFrom-in, lowestFrom-out, lowestFrom-stop, end-even, end-odd, end-first, end-second, own, ownEnd-is}
-use Rattle.loads.proofs.Rounds.{orElse, leastTo-no, leastTo-more, sumTo-no, sumTo-more, load-none, load-more, over-none, over-more, far-below}
+use Rattle.loads.proofs.Chains.{end-even, end-odd, end-first, end-second, own, ownEnd-is}
 
--- ---- equal values give equal results
-
-pub leastTo-ext : (n z : ℕ) (f h : ℕ → ℕ) → ((l : ℕ) → l < n → f l ≡ h l) → leastTo n z f ≡ leastTo n z h
-leastTo-ext zero z f h p = leastTo-no z f ∙ sym (leastTo-no z h)
-leastTo-ext (suc n) z f h p = omega (arith, leastTo-more z f n, leastTo-more z h n, leastTo-ext n z f h (λ l k. p l (omega arith)), p n (omega arith))
-
-pub lowestFrom-ext : (n i : ℕ) (f h : ℕ → Bool) → ((j : ℕ) → f j ≡ h j) → lowestFrom n i f ≡ lowestFrom n i h
-lowestFrom-ext zero i f h p = lowestFrom-stop i f ∙ sym (lowestFrom-stop i h)
-lowestFrom-ext (suc n) i f h p = go (lowestFrom-ext n (suc i) f h p) (f i) refl
-  where
-    go : lowestFrom n (suc i) f ≡ lowestFrom n (suc i) h → (t : Bool) → f i ≡ t → lowestFrom (suc n) i f ≡ lowestFrom (suc n) i h
-    go ih true t = lowestFrom-in n i f t ∙ sym (lowestFrom-in n i h (sym (p i) ∙ t))
-    go ih false t = lowestFrom-out n i f t ∙ ih ∙ sym (lowestFrom-out n i h (sym (p i) ∙ t))
+-- ---- equal ends give equal chains
 
 module _ (a a′ b b′ : ℕ → ℕ) (n : ℕ) (p : (l : ℕ) → l < n → a l ≡ a′ l) (q : (l : ℕ) → l < n → b l ≡ b′ l) where
   pub endAt-ext : (j : ℕ) → j < 2 * n → endAt a b j ≡ endAt a′ b′ j
@@ -56,93 +45,9 @@ module _ (a a′ b b′ : ℕ → ℕ) (n : ℕ) (p : (l : ℕ) → l < n → a 
       go false t = refl
 
   pub ownEnd-ext : (e i : ℕ) → ownEnd a b n e i ≡ ownEnd a′ b′ n e i
-  ownEnd-ext e i = ownEnd-is a b n e i ∙ lowestFrom-ext (192 - i) i (own a b n e) (own a′ b′ n e) (own-ext e) ∙ sym (ownEnd-is a′ b′ n e i)
-
--- ---- two grids that a walk can't tell apart
-
-pub record Alike (g g′ : Grid) : Type 0 where
-  pub elements : g .E ≡ g′ .E
-  pub links : g .K ≡ g′ .K
-  pub loads : (e : ℕ) → e < g .E → g .load e ≡ g′ .load e
-  pub capacities : (e : ℕ) → e < g .E → g .capacity e ≡ g′ .capacity e
-  pub ends-a : (l : ℕ) → l < g .K → g .endA l ≡ g′ .endA l
-  pub ends-b : (l : ℕ) → l < g .K → g .endB l ≡ g′ .endB l
-
-module _ (g g′ : Grid) (formed : Formed g) (same : Alike g g′) (c c′ : Config) (agree : (l : ℕ) → l < g .K → c l ≡ c′ l) where
-  leads-alike : (e via l : ℕ) → l < g .K → leads g c e via l ≡ leads g′ c′ e via l
-  unfolding leads touches
-  leads-alike e via l k = rw (agree l k, same .ends-a l k, same .ends-b l k)
-
-  far-alike : (l e : ℕ) → l < g .K → far g l e ≡ far g′ l e
-  unfolding far
-  far-alike l e k = rw (same .ends-a l k, same .ends-b l k)
-
-  above-alike : (e x x′ : ℕ) → e < g .E → x ≡ x′ → above g e x ≡ above g′ e x′
-  unfolding above
-  above-alike e x x′ k q =
-      let test : leb x (g .capacity e) ≡ leb x′ (g′ .capacity e) = rw (q, same .capacities e k) in
-      ap (λ (t : Bool). orElse e t (g .E)) test ∙ ap (λ z. orElse e (leb x′ (g′ .capacity e)) z) (same .elements)
-
-  mutual
-    unfolding linkLoad
-
-    pub elementLoad-alike : (d e via : ℕ) → e < g .E → elementLoad g c d e via ≡ elementLoad g′ c′ d e via
-    elementLoad-alike zero e via k = load-none g c e via ∙ same .loads e k ∙ sym (load-none g′ c′ e via)
-    elementLoad-alike (suc d) e via k = omega (
-      arith,
-      load-more g c d e via,
-      load-more g′ c′ d e via,
-      same .loads e k,
-      sumTo-ext (g .K) (λ l. gate (leads g c e via l) (linkLoad g c d l e)) (λ l. gate (leads g′ c′ e via l) (linkLoad g′ c′ d l e))
-          (λ l kl. rw (leads-alike e via l kl, linkLoad-alike d l e kl)),
-      ap (λ n. sumTo n (λ l. gate (leads g′ c′ e via l) (linkLoad g′ c′ d l e))) (same .links),
-    )
-
-    pub linkLoad-alike : (d l e : ℕ) → l < g .K → linkLoad g c d l e ≡ linkLoad g′ c′ d l e
-    linkLoad-alike zero l e k = refl
-    linkLoad-alike (suc d) l e k = elementLoad-alike d (far g l e) l (far-below g c formed l e k)
-        ∙ ap (λ z. elementLoad g′ c′ d z l) (far-alike l e k)
-
-  mutual
-    unfolding linkOver
-
-    pub elementOver-alike : (d e via : ℕ) → e < g .E → elementOver g c d e via ≡ elementOver g′ c′ d e via
-    elementOver-alike zero e via k = over-none g c e via ∙ above-alike e (g .load e) (g′ .load e) k (same .loads e k) ∙ sym (over-none g′ c′ e via)
-    elementOver-alike (suc d) e via k = omega (
-      arith,
-      over-more g c d e via,
-      over-more g′ c′ d e via,
-      above-alike e (elementLoad g c (suc d) e via) (elementLoad g′ c′ (suc d) e via) k (elementLoad-alike (suc d) e via k),
-      leastTo-ext (g .K) (g .E) (λ l. orElse (g .E) (leads g c e via l) (linkOver g c d l e))
-          (λ l. orElse (g′ .E) (leads g′ c′ e via l) (linkOver g′ c′ d l e))
-          (λ l kl. rw (leads-alike e via l kl, linkOver-alike d l e kl, same .elements)),
-      ap (λ n. leastTo n (g .E) (λ l. orElse (g′ .E) (leads g′ c′ e via l) (linkOver g′ c′ d l e))) (same .links),
-      ap (λ z. leastTo (g′ .K) z (λ l. orElse (g′ .E) (leads g′ c′ e via l) (linkOver g′ c′ d l e))) (same .elements),
-    )
-
-    pub linkOver-alike : (d l e : ℕ) → l < g .K → linkOver g c d l e ≡ linkOver g′ c′ d l e
-    linkOver-alike zero l e k = same .elements
-    linkOver-alike (suc d) l e k = elementOver-alike d (far g l e) l (far-below g c formed l e k)
-        ∙ ap (λ z. elementOver g′ c′ d z l) (far-alike l e k)
-
-module _ (g g′ : Grid) (formed : Formed g) (same : Alike g g′) (c : Config) where
-  pub elementLoad-same : (d e via : ℕ) → e < g .E → elementLoad g c d e via ≡ elementLoad g′ c d e via
-  elementLoad-same = elementLoad-alike g g′ formed same c c (λ l k. refl)
-
-  pub linkLoad-same : (d l e : ℕ) → l < g .K → linkLoad g c d l e ≡ linkLoad g′ c d l e
-  linkLoad-same = linkLoad-alike g g′ formed same c c (λ l k. refl)
-
-  pub elementOver-same : (d e via : ℕ) → e < g .E → elementOver g c d e via ≡ elementOver g′ c d e via
-  elementOver-same = elementOver-alike g g′ formed same c c (λ l k. refl)
-
-  pub linkOver-same : (d l e : ℕ) → l < g .K → linkOver g c d l e ≡ linkOver g′ c d l e
-  linkOver-same = linkOver-alike g g′ formed same c c (λ l k. refl)
+  ownEnd-ext e i = ownEnd-is a b n e i ∙ lowestFrom-ext (192 - i) i (own a b n e) (own a′ b′ n e) (λ j _. own-ext e j) ∙ sym (ownEnd-is a′ b′ n e i)
 
 -- ---- the chains of a network's ends
-
-sum-below : (f : ℕ → ℕ) (n : ℕ) → ((l : ℕ) → l < n → f l < 2 ^ 32) → sumTo n f ≤ 2 ^ 32 * n
-sum-below f zero h = omega (arith, sumTo-no f)
-sum-below f (suc n) h = omega (arith, sumTo-more f n, sum-below f n (λ l k. h l (omega arith)), h n (omega arith))
 
 module _ (a b : ℕ → ℕ) (K : ℕ) (fit : K ≤ 96) where
   far-at : (j : ℕ) → j < 2 * K → at (ownEnds a b K .far) j ≡ endAt b a j
@@ -256,12 +161,12 @@ module _ (E K : ℕ) (load capacity flags from to : List ℕ) (formed : Formed (
     pub element-over-is : (c : Config) (d e via : ℕ) → e < E
         → elementOver (walkGrid E K (r .far) load capacity) c d e via ≡ elementOver (gridOf E K load capacity flags from to) c d e via
     unfolding gridOf
-    element-over-is c d e via k = sym (elementOver-same (gridOf E K load capacity flags from to) _ formed alike c d e via k)
+    element-over-is c d e via k = sym (elementOver-alike (gridOf E K load capacity flags from to) _ formed alike c c (λ _ _. refl) d e via k)
 
     pub element-load-is : (c : Config) (d e via : ℕ) → e < E
         → elementLoad (walkGrid E K (r .far) load capacity) c d e via ≡ elementLoad (gridOf E K load capacity flags from to) c d e via
     unfolding gridOf
-    element-load-is c d e via k = sym (elementLoad-same (gridOf E K load capacity flags from to) _ formed alike c d e via k)
+    element-load-is c d e via k = sym (elementLoad-alike (gridOf E K load capacity flags from to) _ formed alike c c (λ _ _. refl) d e via k)
 
     -- what `over_place` answers, where the sound sources are marked
     pub over-place-is : (c : Config) (sound : List ℕ) → ((s : ℕ) → s < E → eqb (at sound s) 1 ≡ sound? (gridOf E K load capacity flags from to) s)
@@ -274,7 +179,7 @@ module _ (E K : ℕ) (load capacity flags from to : List ℕ) (formed : Formed (
 
     total-fits : ((e : ℕ) → e < E → at load e < 2 ^ 32) → totalLoad (gridOf E K load capacity flags from to) < 2 ^ 64
     unfolding totalLoad gridOf
-    total-fits small = omega (arith, sum-below (at load) E small)
+    total-fits small = omega (arith, sumTo-below (2 ^ 32) (at load) E (λ e k. omega (arith, small e k)))
 
     load-fits : (c : Config) → Bridges (gridOf E K load capacity flags from to) c → (s : ℕ) → s < E
         → elementLoad (gridOf E K load capacity flags from to) c (2 * E) s K ≤ totalLoad (gridOf E K load capacity flags from to)

@@ -1,7 +1,7 @@
 -- The turns of `over_place`: each marked element's walk goes into the lowest number found.
 -- Assumes nothing.
-use Prim.Native.Nat.{ℕ, suc, _+_, _*_, _≤_, _<_, _^_, min}
-use mathlib.Core.Path.{_≡_, sym, ap, _∙_}
+use Prim.Native.Nat.{ℕ, _+_, _*_, _≤_, _<_, _^_, min}
+use mathlib.Core.Path.{_≡_, sym, ap}
 use mathlib.Core.Bool.{true, false}
 use mathlib.Core.List.{List}
 use lib.Dec.{eqb}
@@ -11,11 +11,10 @@ use Rattle.feeding.specs.Below.{leastTo}
 use Rattle.feeding.specs.Networks.{Grid, at}
 use Rattle.feeding.specs.Parts.{Config}
 use Rattle.feeding.specs.Loads.{elementLoad, elementOver}
-use Rattle.feeding.proofs.Totals.{leastTo-top}
+use Rattle.feeding.proofs.Lows.{leastTo-no, leastTo-step, leastTo-top}
 use Rattle.loads.specs.Walks.{walkGrid, elementCarried, Carries, overPlace}
 use Rattle.loads.specs.declared.Carried.{Carried}
 use Rattle.loads.proofs.Lending.{element-over-in}
-use Rattle.loads.proofs.Rounds.{leastTo-no, leastTo-more}
 
 -- what the walk from s finds, where s is marked
 unfoldable pub foundFrom : Grid → Config → List ℕ → ℕ → ℕ
@@ -42,10 +41,7 @@ module _ (E K : ℕ) (far load capacity : List ℕ) (c : Config) (sound : List �
   place-more : (s : ℕ) → placeTo E K far load capacity c sound (s + 1)
       ≡ min (placeTo E K far load capacity c sound s) (foundFrom (walkGrid E K far load capacity) c sound s)
   unfolding placeTo
-  place-more s =
-      let one : s + 1 ≡ suc s = omega arith in
-      ap (λ n. leastTo n E (foundFrom (walkGrid E K far load capacity) c sound)) one
-      ∙ leastTo-more E (foundFrom (walkGrid E K far load capacity) c sound) s
+  place-more s = leastTo-step s E (foundFrom (walkGrid E K far load capacity) c sound)
 
   place-top : (s : ℕ) → placeTo E K far load capacity c sound s ≤ E
   unfolding placeTo

@@ -6,13 +6,13 @@ use mathlib.Core.Bool.{Bool, true, false}
 use mathlib.Core.List.{List}
 use lib.Dec.{eqb, ltb}
 use lib.ListN.{length, set, length-set, replicate, length-replicate, getD-replicate}
-use lib.Seq.{getD-set-same, getD-set-other, ext-getD}
+use lib.Seq.{getD-set-same, getD-set-other}
 use borrow.Author.Tests.{eqb-true, eqb-false, ltb-true, ltb-false, lt-ltb, le-ltb}
 use native.Mathlib.Omega.{arith}
-use Rattle.feeding.specs.Below.{tabulate, gate}
+use Rattle.feeding.specs.Below.{gate}
 use Rattle.feeding.specs.Networks.{at}
-use Rattle.feeding.proofs.Lows.{length-tabulate, at-tabulate}
-use Rattle.feeding.proofs.Sums.{ltb-suc}
+use Rattle.feeding.proofs.Below.{ltb-suc}
+use Rattle.feeding.proofs.Lows.{table-ext}
 use Rattle.loads.specs.Ends.{TwoEnds, endAt, farAt, ownEnd, ownEnds}
 use Rattle.loads.proofs.Chains.{own-yes, own-no, ownEnd-in, ownEnd-out, ownEnd-past, end-first, end-second}
 
@@ -128,14 +128,9 @@ module _ (a b : ℕ → ℕ) (n : ℕ) where
   pub chained-all : (head next far : List ℕ) → Chained a b n 0 head next far → record { head = head; next = next; far = far } ≡ ownEnds a b n
   unfolding ownEnds nextOf farOf
   chained-all head next far r = cc (
-    ext-getD 0 head (tabulate 64 (λ e. ownEnd a b n e 0)) (r .head-length ∙ sym (length-tabulate 64 _))
-        (λ e k. r .heads e (omega (arith, r .head-length)) ∙ sym (at-tabulate 64 (λ e. ownEnd a b n e 0) e (omega (arith, r .head-length)))),
-    ext-getD 0 next (tabulate 192 (nextOf a b n)) (r .next-length ∙ sym (length-tabulate 192 _))
-        (λ j k. r .nexts j (omega (arith, r .next-length)) ∙ on-past 0 192 (nextOf a b n) j (omega arith)
-        ∙ sym (at-tabulate 192 (nextOf a b n) j (omega (arith, r .next-length)))),
-    ext-getD 0 far (tabulate 192 (farOf a b n)) (r .far-length ∙ sym (length-tabulate 192 _))
-        (λ j k. r .fars j (omega (arith, r .far-length)) ∙ on-past 0 0 (farOf a b n) j (omega arith)
-        ∙ sym (at-tabulate 192 (farOf a b n) j (omega (arith, r .far-length)))),
+    table-ext 64 (λ e. ownEnd a b n e 0) head (r .head-length) (r .heads),
+    table-ext 192 (nextOf a b n) next (r .next-length) (λ j k. r .nexts j k ∙ on-past 0 192 (nextOf a b n) j (omega arith)),
+    table-ext 192 (farOf a b n) far (r .far-length) (λ j k. r .fars j k ∙ on-past 0 0 (farOf a b n) j (omega arith)),
   )
 
 pub chained-start : (a b : ℕ → ℕ) (n : ℕ) → n ≤ 96 → Chained a b n (2 * n) (replicate 64 192) (replicate 192 192) (replicate 192 0)

@@ -1,9 +1,9 @@
 -- What the walk away from a source answers, by the definitions of `feeding`, over the grid that the lent lists hold.
 -- Assumes nothing.
 use mathlib.Core.Path.{_≡_}
-use mathlib.Core.Bool.{Bool, true, false}
+use mathlib.Core.Bool.{true, false}
 use mathlib.Core.List.{List}
-use Prim.Native.Nat.{ℕ, zero, suc, _+_, _*_, _/_, _<_, _≤_, _^_, min}
+use Prim.Native.Nat.{ℕ, suc, _+_, _*_, _<_, _≤_, _^_, min}
 use lib.Dec.{eqb, leb}
 use lib.ListN.{length}
 use Rattle.feeding.specs.Below.{leastTo}

@@ -1,7 +1,6 @@
 // The load at an element and what a link carries, each by its own links; and the lowest element that is loaded above its capacity.
 ghost use mathlib.Core.Path.{_≡_};
-ghost use mathlib.Core.Bool.{true};
-ghost use Prim.Native.Nat.{ℕ, _<_, _≤_, _^_, _*_, _/_};
+ghost use Prim.Native.Nat.{_<_, _≤_, _^_, _*_, _/_};
 ghost use lib.ListN.{length};
 ghost use Rattle.feeding.specs.Networks.{at};
 ghost use Rattle.feeding.specs.Parts.{closedIn};

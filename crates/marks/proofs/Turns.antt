@@ -2,17 +2,17 @@
 -- Assumes nothing.
 use Prim.Native.Nat.{ℕ, _+_, _≤_, _<_}
 use mathlib.Core.Path.{_≡_, refl, sym, ap, _∙_}
-use mathlib.Core.Bool.{Bool, true, false, _&&_, or-true}
+use mathlib.Core.Bool.{true, false, _&&_, or-true}
 use mathlib.Core.List.{List}
-use lib.Dec.{eqb, ltb}
+use lib.Dec.{ltb}
 use lib.ListN.{length}
-use borrow.Author.Tests.{eqb-true, eqb-false, eq-eqb, ne-eqb, lt-ltb, le-ltb}
+use borrow.Author.Tests.{eq-eqb, ne-eqb, lt-ltb, le-ltb}
 use native.Mathlib.Omega.{arith}
 use Rattle.feeding.specs.Below.{those}
 use Rattle.feeding.specs.Networks.{at, marked}
+use Rattle.feeding.proofs.Below.{eqb-comm, anyTo-ext}
 use Rattle.feeding.proofs.Lows.{length-those-step}
 use Rattle.parts.specs.Labelling.{lastOfPart}
-use Rattle.parts.proofs.Grids.{anyTo-ext}
 use Rattle.parts.proofs.Lasts.{last-live}
 use Rattle.marks.specs.Sets.{oneOf, butNot, inMarkedPart, atEitherEnd, members}
 
@@ -47,13 +47,6 @@ module _ (kept left : List ℕ) (x : ℕ) where
   but-out h = rw (ne-eqb (at kept x) 1 h)
 
 -- ---- the highest marked element of a part: below 64 where there is one
-
-pub eqb-comm : (a b : ℕ) → eqb a b ≡ eqb b a
-eqb-comm a b = go (eqb a b) refl
-  where
-    go : (t : Bool) → eqb a b ≡ t → t ≡ eqb b a
-    go true t = sym (eq-eqb b a (sym (eqb-true a b t)))
-    go false t = sym (ne-eqb b a (λ e. eqb-false a b t (sym e)))
 
 module _ (label has : List ℕ) (n : ℕ) (fit : n ≤ 64) (x : ℕ) (inside : at label x < 64) where
   last-test : ltb (at (lastOfPart label has n) (at label x)) 64 ≡ inMarkedPart label has n x

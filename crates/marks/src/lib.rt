@@ -1,7 +1,7 @@
 // Sets of elements or links as arrays, 1 for a member and 0 for the others; each function makes one in one pass.
 use parts::last_of_part;
 ghost use mathlib.Core.Path.{_≡_};
-ghost use Prim.Native.Nat.{_<_, _≤_};
+ghost use Prim.Native.Nat.{_<_};
 ghost use lib.ListN.{length};
 ghost use Rattle.feeding.specs.Below.{marks};
 ghost use Rattle.marks.specs.Sets.{Reach, PartsReach, EndsReach, oneOf, butNot, inMarkedPart, atEitherEnd, members};

@@ -1,58 +1,22 @@
 -- What `parts_of` returns, for a grid with these links: the grid's labels, none above its element, and marks where the grid's loops close.
 -- Assumes nothing.
-use Prim.Native.Nat.{ℕ, zero, suc, _≤_, _<_}
+use Prim.Native.Nat.{ℕ, _≤_, _<_}
 use mathlib.Core.Path.{_≡_, refl, sym, ap, _∙_}
-use mathlib.Core.Bool.{Bool, true, false, cond, _&&_}
+use mathlib.Core.Bool.{Bool, true, false, _&&_}
 use mathlib.Core.List.{List}
-use lib.Dec.{eqb, ltb, leb}
+use lib.Dec.{eqb, ltb}
 use lib.ListN.{length, List·getD-eq-default}
-use borrow.Author.Tests.{eqb-true, eq-eqb, ltb-true, ltb-false, leb-true, leb-false}
+use borrow.Author.Tests.{eqb-true, eq-eqb, ltb-true, ltb-false}
 use native.Mathlib.Omega.{arith}
-use Rattle.feeding.specs.Below.{tabulate, anyTo}
+use Rattle.feeding.specs.Below.{anyTo}
 use Rattle.feeding.specs.Networks.{Grid, Formed, at, gridOf}
-use Rattle.feeding.specs.Parts.{Config, closedIn, relabel, link, labels, labelsAfter, label, joined?}
+use Rattle.feeding.specs.Parts.{closedIn, labels, labelsAfter, label, joined?}
 use Rattle.feeding.specs.Safety.{loopAt, looped?}
-use Rattle.feeding.proofs.Below.{and-left, and-right, and-both, anyTo-out, anyTo-in}
-use Rattle.feeding.proofs.Labels.{labels-open, labels-closed, length-labels, labels-wider}
-use Rattle.feeding.proofs.Lows.{length-tabulate, at-tabulate}
+use Rattle.feeding.proofs.Below.{same-test, and-left, and-right, and-both, anyTo-out, anyTo-in, anyTo-ext}
+use Rattle.feeding.proofs.Labels.{labels-le, length-labels, labels-wider}
 use Rattle.parts.specs.Labelling.{AllBelow, EndsBelow, partsOf, lastOfPart}
 use Rattle.parts.proofs.Lasts.{last-live}
 use Rattle.parts.proofs.Loops.{length-loops, loop-mark}
-use Rattle.parts.proofs.Turns.{labels-none, link-low, link-high}
-
--- ---- no label is above its element
-
-relabel-le : (x y z : ℕ) → y ≤ x → relabel x y z ≤ z
-unfolding relabel
-relabel-le x y z h = go (eqb z x) refl
-  where
-    go : (t : Bool) → eqb z x ≡ t → cond t y z ≤ z
-    go true e = omega (arith, eqb-true z x e)
-    go false e = omega arith
-
-link-le : (i j : ℕ) (ls : List ℕ) (e : ℕ) → at (link i j ls) e ≤ at ls e
-link-le i j ls e = go (leb (at ls i) (at ls j)) refl
-  where
-    go : (t : Bool) → leb (at ls i) (at ls j) ≡ t → at (link i j ls) e ≤ at ls e
-    go true t = let h = leb-true (at ls i) (at ls j) t in omega (arith, link-low ls i j e h, relabel-le (at ls j) (at ls i) (at ls e) h)
-    go false t = let h = leb-false (at ls i) (at ls j) t in omega (arith, link-high ls i j e h, relabel-le (at ls i) (at ls j) (at ls e) (omega arith))
-
-own-le : (m e : ℕ) → at (tabulate m (λ e. e)) e ≤ e
-own-le m e = go (ltb e m) refl
-  where
-    go : (t : Bool) → ltb e m ≡ t → at (tabulate m (λ e. e)) e ≤ e
-    go true t = omega (arith, at-tabulate m (λ e. e) e (ltb-true e m t))
-    go false t =
-        let out : length (tabulate m (λ e. e)) ≤ e = omega (arith, length-tabulate m (λ e. e), ltb-false e m t) in
-        omega (arith, List·getD-eq-default (tabulate m (λ e. e)) 0 out)
-
-pub labels-le : (m : ℕ) (a b : ℕ → ℕ) (c : Config) (n e : ℕ) → at (labels m a b c n) e ≤ e
-labels-le m a b c zero e = rw (labels-none m a b c) (own-le m e)
-labels-le m a b c (suc n) e = go (labels-le m a b c n e) (c n) refl
-  where
-    go : at (labels m a b c n) e ≤ e → (t : Bool) → c n ≡ t → at (labels m a b c (suc n)) e ≤ e
-    go ih true t = rw (labels-closed m a b c n t) (omega (arith, link-le (a n) (b n) (labels m a b c n) e))
-    go ih false t = rw (labels-open m a b c n t) ih
 
 module _ (from to closed : List ℕ) (n : ℕ) where
   pub label-le : (e : ℕ) → at (partsOf from to closed n .label) e ≤ e
@@ -88,16 +52,6 @@ module _ (from to closed : List ℕ) (n : ℕ) where
   looped-mark x h = loop-mark 64 (at from) (at to) (closedIn closed) n x h
 
 -- ---- a grid with these links
-
-pub anyTo-ext : (n : ℕ) (f g : ℕ → Bool) → ((l : ℕ) → l < n → f l ≡ g l) → anyTo n f ≡ anyTo n g
-unfolding anyTo
-anyTo-ext zero f g h = refl
-anyTo-ext (suc n) f g h = rw (anyTo-ext n f g (λ l k. h l (omega arith)), h n (omega arith))
-
-same-test : (s t : Bool) → (s ≡ true → t ≡ true) → (t ≡ true → s ≡ true) → s ≡ t
-same-test true t f b = sym (f refl)
-same-test false true f b = b refl
-same-test false false f b = refl
 
 module _ (from to closed : List ℕ) (g : Grid) (formed : Formed g) (small : g .E ≤ 64) (a-is : g .endA ≡ at from) (b-is : g .endB ≡ at to) where
   pub ends-below : g .K ≤ length from → g .K ≤ length to → g .K ≤ length closed → EndsBelow 64 from to closed (g .K)

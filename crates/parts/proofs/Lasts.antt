@@ -1,81 +1,20 @@
 -- The highest marked element of each part: a store at each marked element keeps the table, and what callers read off it.
 -- Assumes nothing.
-use Prim.Native.Nat.{ℕ, zero, suc, _+_, _≤_, _<_}
+use Prim.Native.Nat.{ℕ, suc, _+_, _≤_, _<_}
 use mathlib.Core.Path.{_≡_, refl, sym, ap, _∙_}
-use mathlib.Core.Bool.{Bool, true, false, not, _&&_, _||_, false≢true}
+use mathlib.Core.Bool.{Bool, true, false, not, _&&_, false≢true}
 use mathlib.Core.List.{List}
 use lib.Dec.{eqb, ltb}
 use lib.ListN.{length, set, replicate, length-set}
-use lib.Seq.{getD-set-same, getD-set-other, ext-getD}
-use borrow.Author.Tests.{eqb-true, eqb-false, eq-eqb, ne-eqb, ltb-true, lt-ltb, le-ltb}
+use lib.Seq.{getD-set-same, getD-set-other}
+use borrow.Author.Tests.{eqb-true, eqb-false, eq-eqb, ne-eqb, ltb-true, lt-ltb}
 use native.Mathlib.Omega.{arith}
 use native.Mathlib.Numerals.{add-one}
 use Rattle.feeding.specs.Below.{tabulate, highest, anyTo}
 use Rattle.feeding.specs.Networks.{at}
 use Rattle.feeding.proofs.Below.{and-left, and-right, and-both, anyTo-out, anyTo-in}
-use Rattle.feeding.proofs.Lows.{length-tabulate, at-tabulate}
+use Rattle.feeding.proofs.Lows.{length-tabulate, at-tabulate, table-ext, highest-some, highest-none, highest-lt, highest-passes, highest-least}
 use Rattle.parts.specs.Labelling.{lastOfPart}
-
--- ---- the highest number that passes a test
-
-highest-yes : (n z : ℕ) (f : ℕ → Bool) → f n ≡ true → highest (suc n) z f ≡ n
-unfolding highest
-highest-yes n z f h = rw (h, highest)
-
-highest-no : (n z : ℕ) (f : ℕ → Bool) → f n ≡ false → highest (suc n) z f ≡ highest n z f
-unfolding highest
-highest-no n z f h = rw (h, highest)
-
-highest-none : (z : ℕ) (f : ℕ → Bool) → highest zero z f ≡ z
-unfolding highest
-highest-none z f = refl
-
-pub any-none : (f : ℕ → Bool) → anyTo zero f ≡ false
-unfolding anyTo
-any-none f = refl
-
-pub any-yes : (n : ℕ) (f : ℕ → Bool) → f n ≡ true → anyTo (suc n) f ≡ true
-any-yes n f h = anyTo-in (suc n) f n (omega arith) h
-
-pub any-no : (n : ℕ) (f : ℕ → Bool) → f n ≡ false → anyTo (suc n) f ≡ anyTo n f
-unfolding anyTo
-any-no n f h = rw h (go (anyTo n f))
-  where
-    go : (b : Bool) → (b || false) ≡ b
-    go true = refl
-    go false = refl
-
--- some number passes exactly where the highest is one
-pub highest-any : (n z : ℕ) (f : ℕ → Bool) → n ≤ z → ltb (highest n z f) z ≡ anyTo n f
-highest-any zero z f h = le-ltb (highest zero z f) z (omega (arith, highest-none z f)) ∙ sym (any-none f)
-highest-any (suc n) z f h = go (highest-any n z f (omega arith)) (f n) refl
-  where
-    go : ltb (highest n z f) z ≡ anyTo n f → (t : Bool) → f n ≡ t → ltb (highest (suc n) z f) z ≡ anyTo (suc n) f
-    go ih true t = lt-ltb (highest (suc n) z f) z (omega (arith, highest-yes n z f t)) ∙ sym (any-yes n f t)
-    go ih false t = ap (λ (k : ℕ). ltb k z) (highest-no n z f t) ∙ ih ∙ sym (any-no n f t)
-
--- the highest passes
-pub highest-passes : (n z : ℕ) (f : ℕ → Bool) → n ≤ z → highest n z f < z → (highest n z f < n) × (f (highest n z f) ≡ true)
-highest-passes zero z f h k = absurd (omega (arith, highest-none z f))
-highest-passes (suc n) z f h k = go (highest-passes n z f (omega arith)) (f n) refl
-  where
-    go : (highest n z f < z → (highest n z f < n) × (f (highest n z f) ≡ true)) → (t : Bool) → f n ≡ t
-        → (highest (suc n) z f < suc n) × (f (highest (suc n) z f) ≡ true)
-    go ih true t = rw (highest-yes n z f t) (omega arith, t)
-    go ih false t =
-        let r = ih (omega (arith, highest-no n z f t)) in
-        rw (highest-no n z f t) (omega (arith, r .0), r .1)
-
--- none that passes is above the highest
-pub highest-least : (n z : ℕ) (f : ℕ → Bool) → n ≤ z → (y : ℕ) → y < n → f y ≡ true → y ≤ highest n z f
-highest-least zero z f h y k e = absurd (omega arith)
-highest-least (suc n) z f h y k e = go (highest-least n z f (omega arith) y) (f n) refl
-  where
-    go : (y < n → f y ≡ true → y ≤ highest n z f) → (t : Bool) → f n ≡ t → y ≤ highest (suc n) z f
-    go ih true t = omega (arith, highest-yes n z f t)
-    go ih false t =
-        let apart : y ≡ n → ⊥ = λ q. false≢true (sym t ∙ ap f (sym q) ∙ e) in
-        rw (highest-no n z f t) (ih (omega arith) e)
 
 -- ---- the table
 
@@ -92,8 +31,10 @@ module _ (label has : List ℕ) where
   unfolding lastOfPart tabulate highest
   lasts-none = refl
 
-  lasts-ext : (n : ℕ) (last : List ℕ) → length last ≡ 64 → ((k : ℕ) → k < 64 → at last k ≡ at (lastOfPart label has n) k) → last ≡ lastOfPart label has n
-  lasts-ext n last l h = ext-getD 0 last (lastOfPart label has n) (l ∙ sym (length-lasts n)) (λ k b. h k (omega arith))
+  lasts-ext : (n : ℕ) (last : List ℕ) → length last ≡ 64
+      → ((k : ℕ) → k < 64 → at last k ≡ highest n 64 (λ x. eqb (at has x) 1 && eqb (at label x) k)) → last ≡ lastOfPart label has n
+  unfolding lastOfPart
+  lasts-ext n last l h = table-ext 64 (λ k. highest n 64 (λ x. eqb (at has x) 1 && eqb (at label x) k)) last l h
 
   pub lasts-on : (n : ℕ) (last : List ℕ) → last ≡ lastOfPart label has n → at has n ≡ 1 → at label n < 64
       → set last (at label n) n ≡ lastOfPart label has (n + 1)
@@ -104,27 +45,28 @@ module _ (label has : List ℕ) where
       long : length last ≡ 64
       long = ap length inv ∙ length-lasts n
 
-      go : (k : ℕ) → k < 64 → (t : Bool) → eqb (at label n) k ≡ t → at (set last (at label n) n) k ≡ at (lastOfPart label has (suc n)) k
+      go : (k : ℕ) → k < 64 → (t : Bool) → eqb (at label n) k ≡ t
+          → at (set last (at label n) n) k ≡ highest (suc n) 64 (λ x. eqb (at has x) 1 && eqb (at label x) k)
       go k b true t =
           rw (← eqb-true (at label n) k t) (getD-set-same last (at label n) n 0 (omega (arith, long)))
-          ∙ sym (last-at (suc n) k b ∙ highest-yes n 64 _ (and-both _ _ (eq-eqb (at has n) 1 on) t))
+          ∙ sym (highest-some n 64 _ (and-both _ _ (eq-eqb (at has n) 1 on) t))
       go k b false t =
           getD-set-other last (at label n) k n 0 (λ e. eqb-false (at label n) k t (sym e))
           ∙ ap (λ (m : List ℕ). at m k) inv
           ∙ last-at n k b
-          ∙ sym (last-at (suc n) k b ∙ highest-no n 64 _ (rw (eq-eqb (at has n) 1 on) t))
+          ∙ sym (highest-none n 64 _ (rw (eq-eqb (at has n) 1 on) t))
 
   pub lasts-off : (n : ℕ) (last : List ℕ) → last ≡ lastOfPart label has n → (at has n ≡ 1 → ⊥) → last ≡ lastOfPart label has (n + 1)
   lasts-off n last inv off =
       rw add-one
       (lasts-ext (suc n) last (ap length inv ∙ length-lasts n)
-      (λ k b. ap (λ (m : List ℕ). at m k) inv ∙ last-at n k b ∙ sym (last-at (suc n) k b ∙ highest-no n 64 _ (rw (ne-eqb (at has n) 1 off)))))
+      (λ k b. ap (λ (m : List ℕ). at m k) inv ∙ last-at n k b ∙ sym (highest-none n 64 _ (rw (ne-eqb (at has n) 1 off)))))
 
   -- ---- for callers
 
   -- a part has an entry below 64 exactly where it has a marked element
   pub last-live : (n k : ℕ) → n ≤ 64 → k < 64 → ltb (at (lastOfPart label has n) k) 64 ≡ anyTo n (λ x. eqb (at has x) 1 && eqb (at label x) k)
-  last-live n k h b = ap (λ (x : ℕ). ltb x 64) (last-at n k b) ∙ highest-any n 64 (λ x. eqb (at has x) 1 && eqb (at label x) k) h
+  last-live n k h b = ap (λ (x : ℕ). ltb x 64) (last-at n k b) ∙ highest-lt n 64 (λ x. eqb (at has x) 1 && eqb (at label x) k) h
 
   -- such an entry is a marked element of the part, and none above it is
   pub last-marked : (n k : ℕ) → n ≤ 64 → k < 64 → at (lastOfPart label has n) k < 64
@@ -143,7 +85,7 @@ module _ (label has : List ℕ) where
   pub last-least : (n y : ℕ) → n ≤ 64 → at label y < 64 → y < n → at has y ≡ 1 → y ≤ at (lastOfPart label has n) (at label y)
   last-least n y h b k on =
       rw (last-at n (at label y) b)
-      (highest-least n 64 (λ x. eqb (at has x) 1 && eqb (at label x) (at label y)) h y k
+      (highest-least n 64 (λ x. eqb (at has x) 1 && eqb (at label x) (at label y)) y k
       (and-both _ _ (eq-eqb _ _ on) (eq-eqb (at label y) (at label y) refl)))
 
   -- x is the last marked element of its part: none above it is marked and in it

@@ -13,7 +13,7 @@ use Rattle.feeding.specs.Below.{anyTo}
 use Rattle.feeding.specs.Networks.{at}
 use Rattle.feeding.specs.Parts.{Config, labels}
 use Rattle.parts.specs.Labelling.{loopMarks}
-use Rattle.parts.proofs.Lasts.{any-none, any-yes, any-no}
+use Rattle.feeding.proofs.Below.{any-none, any-yes, any-no}
 
 module _ (m : ℕ) (a b : ℕ → ℕ) (c : Config) where
   pub loops-none : loopMarks m a b c zero ≡ replicate m 0

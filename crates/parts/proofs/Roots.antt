@@ -7,13 +7,13 @@ use mathlib.Core.Bool.{Bool, true, false}
 use mathlib.Core.List.{List}
 use lib.Dec.{eqb, ltb}
 use lib.ListN.{length, set, length-set, List·getD-eq-default}
-use lib.Seq.{getD-set-same, getD-set-other, ext-getD}
+use lib.Seq.{getD-set-same, getD-set-other}
 use borrow.Author.Tests.{eqb-true, eqb-false, eq-eqb, ne-eqb, ltb-true, ltb-false}
 use native.Mathlib.Omega.{arith}
-use Rattle.feeding.specs.Below.{tabulate}
 use Rattle.feeding.specs.Networks.{at}
 use Rattle.feeding.specs.Parts.{relabel}
-use Rattle.feeding.proofs.Lows.{length-tabulate, at-tabulate}
+use Rattle.feeding.proofs.Labels.{relabel-at, relabel-off}
+use Rattle.feeding.proofs.Lows.{table-ext}
 use Rattle.parts.specs.Labelling.{Falls, rootFrom, rootOf, rootsOf}
 
 same? : (x y : ℕ) → (x ≡ y) ⊎ (x ≡ y → ⊥)
@@ -128,14 +128,6 @@ falls-set p f y v h x k = go (same? x y)
         rw e (omega (arith, getD-set-same p y v 0 i))
     go (inr e) = omega (arith, getD-set-other p y x v 0 e, falls-all p f x)
 
-pub relabel-at : (x y : ℕ) → relabel x y x ≡ y
-unfolding relabel
-relabel-at x y = rw (eq-eqb x x refl)
-
-pub relabel-off : (x y z : ℕ) → (z ≡ x → ⊥) → relabel x y z ≡ z
-unfolding relabel
-relabel-off x y z h = rw (ne-eqb z x h)
-
 -- a lower root stored at a root: its elements get the lower root
 module _ (p : List ℕ) (f : Falls p) (hi lo : ℕ) (in-hi : hi < length p) (own-hi : at p hi ≡ hi) (own-lo : at p lo ≡ lo) (lt : lo < hi) where
   pub root-store : (x : ℕ) → x < length p → rootOf (set p hi lo) x ≡ relabel hi lo (rootOf p x)
@@ -210,6 +202,4 @@ module _ (p : List ℕ) (f : Falls p) (n : ℕ) (label : List ℕ) (inv : FlatTo
 
 pub flat-all : (p label : List ℕ) (n : ℕ) → 64 ≤ n → length p ≡ 64 → FlatTo p n label → label ≡ rootsOf p
 unfolding rootsOf
-flat-all p label n k h inv =
-    ext-getD 0 label (tabulate 64 (rootOf p)) (inv .long ∙ h ∙ sym (length-tabulate 64 (rootOf p)))
-    (λ x l. inv .done x (omega (arith, inv .long)) ∙ sym (at-tabulate 64 (rootOf p) x (omega (arith, inv .long))))
+flat-all p label n k h inv = table-ext 64 (rootOf p) label (inv .long ∙ h) (λ x l. inv .done x (omega arith))

@@ -1,55 +1,23 @@
 -- A turn of the loop over the links: the roots stay the labels, and the marks stay at the loops, by each of its four ways.
 -- Assumes nothing.
 use Prim.Native.Nat.{ℕ, suc, _+_, _≤_, _<_}
-use mathlib.Core.Path.{_≡_, refl, sym, ap, _∙_}
-use mathlib.Core.Bool.{Bool, true, false, cond}
-use mathlib.Core.List.{List, map}
-use lib.Dec.{eqb}
-use lib.ListN.{length, getD, set, replicate, length-set, List·getD-map}
-use lib.Seq.{ext-getD}
-use borrow.Author.Tests.{eqb-true, eq-eqb, ne-eqb, le-leb, lt-leb}
+use mathlib.Core.Path.{_≡_, sym, ap, _∙_}
+use mathlib.Core.Bool.{true, false}
+use mathlib.Core.List.{List}
+use lib.ListN.{length, set, replicate, length-set}
+use borrow.Author.Tests.{eq-eqb, ne-eqb}
 use native.Mathlib.Omega.{arith}
 use native.Mathlib.Numerals.{add-one}
 use Rattle.feeding.specs.Below.{tabulate}
 use Rattle.feeding.specs.Networks.{at}
-use Rattle.feeding.specs.Parts.{Config, closedIn, relabel, merge, link, labels}
+use Rattle.feeding.specs.Parts.{Config, closedIn, relabel, labels}
 use Rattle.feeding.proofs.Below.{and-both}
-use Rattle.feeding.proofs.Labels.{labels-open, labels-closed, length-labels}
-use Rattle.feeding.proofs.Lows.{length-tabulate, at-tabulate}
+use Rattle.feeding.proofs.Labels.{relabel-at, relabel-off, relabel-self, link-low, link-high, labels-none, labels-open, labels-closed, length-labels}
+use Rattle.feeding.proofs.Lows.{length-tabulate, at-tabulate, table-ext}
 use Rattle.parts.specs.Labelling.{Falls, rootOf, rootsOf, loopMarks, partsOf}
 use Rattle.parts.specs.declared.Parts.{Parts}
 use Rattle.parts.proofs.Loops.{loops-none, loops-on, loops-off}
-use Rattle.parts.proofs.Roots.{relabel-at, relabel-off, falls-set, root-own, root-le, root-is, root-store, root-shorter}
-
--- ---- the labels after one more link
-
-relabel-zero : (x y : ℕ) → x ≤ y → relabel y x 0 ≡ 0
-unfolding relabel
-relabel-zero x y h = go (eqb 0 y) refl
-  where
-    go : (t : Bool) → eqb 0 y ≡ t → cond t x 0 ≡ 0
-    go true e = omega (arith, eqb-true 0 y e)
-    go false e = refl
-
-relabel-same : (x z : ℕ) → relabel x x z ≡ z
-unfolding relabel
-relabel-same x z = go (eqb z x) refl
-  where
-    go : (t : Bool) → eqb z x ≡ t → cond t x z ≡ z
-    go true e = sym (eqb-true z x e)
-    go false e = refl
-
-at-map : (f : ℕ → ℕ) (ls : List ℕ) (e : ℕ) → f 0 ≡ 0 → at (map f ls) e ≡ f (at ls e)
-at-map f ls e h = ap (getD (map f ls) e) (sym h) ∙ List·getD-map f ls e 0
-
-module _ (ls : List ℕ) (i j e : ℕ) where
-  pub link-low : at ls i ≤ at ls j → at (link i j ls) e ≡ relabel (at ls j) (at ls i) (at ls e)
-  unfolding link merge
-  link-low h = rw (le-leb (at ls i) (at ls j) h, merge) (at-map (relabel (at ls j) (at ls i)) ls e (relabel-zero _ _ h))
-
-  pub link-high : at ls j < at ls i → at (link i j ls) e ≡ relabel (at ls i) (at ls j) (at ls e)
-  unfolding link merge
-  link-high h = rw (lt-leb (at ls i) (at ls j) h, merge) (at-map (relabel (at ls i) (at ls j)) ls e (relabel-zero _ _ (omega arith)))
+use Rattle.parts.proofs.Roots.{falls-set, root-own, root-le, root-is, root-store, root-shorter}
 
 -- ---- the roots after the stores
 
@@ -97,10 +65,6 @@ pub record Stands (a b : ℕ → ℕ) (c : Config) (l : ℕ) (parent looped : Li
   pub falls : Falls parent
   pub roots : (x : ℕ) → x < 64 → rootOf parent x ≡ at (labels 64 a b c l) x
   pub marks : looped ≡ loopMarks 64 a b c l
-
-pub labels-none : (m : ℕ) (a b : ℕ → ℕ) (c : Config) → labels m a b c 0 ≡ tabulate m (λ e. e)
-unfolding labels
-labels-none m a b c = refl
 
 module _ (a b : ℕ → ℕ) (c : Config) where
   marks-on : (l : ℕ) → c l ≡ true → at (labels 64 a b c l) (a l) ≡ at (labels 64 a b c l) (b l)
@@ -161,7 +125,7 @@ module _ (a b : ℕ → ℕ) (c : Config) (l : ℕ) (p looped : List ℕ) (inv :
       falls = inv .falls;
       roots = λ e k.
           inv .roots e k
-          ∙ sym (relabel-same x _)
+          ∙ sym (relabel-self x _)
           ∙ ap (λ (y : ℕ). relabel y x (at (labels 64 a b c l) e)) same
           ∙ sym (next-low (omega arith) e);
       marks = ap (λ (m : List ℕ). set m (a l) 1) (inv .marks) ∙ sym (marks-on a b c l closed (x-label ∙ same ∙ sym y-label));
@@ -213,9 +177,7 @@ module _ (a b : ℕ → ℕ) (c : Config) (l : ℕ) (p looped : List ℕ) (inv :
   -- all links taken: the roots are the labels
   pub roots-labels : rootsOf p ≡ labels 64 a b c l
   unfolding rootsOf
-  roots-labels =
-      ext-getD 0 (tabulate 64 (rootOf p)) (labels 64 a b c l) (length-tabulate 64 (rootOf p) ∙ sym (length-labels 64 a b c l))
-      (λ x k. let b : x < 64 = omega (arith, length-tabulate 64 (rootOf p)) in at-tabulate 64 (rootOf p) x b ∙ inv .roots x b)
+  roots-labels = sym (table-ext 64 (rootOf p) (labels 64 a b c l) (length-labels 64 a b c l) (λ x k. sym (inv .roots x k)))
 
 -- what the function returns
 pub parts-done : (from to closed : List ℕ) (l links : ℕ) (p looped label : List ℕ) → Stands (at from) (at to) (closedIn closed) l p looped → l ≡ links

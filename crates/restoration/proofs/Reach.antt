@@ -1,15 +1,14 @@
 -- What the calls ask, from a well-formed network: lists are long enough, and ends and labels are elements.
 -- Assumes nothing.
-use mathlib.Core.Path.{_≡_, refl, sym, ap, _∙_}
+use mathlib.Core.Path.{_≡_, ap, _∙_}
 use mathlib.Core.Bool.{Bool}
 use mathlib.Core.List.{List}
-use Prim.Native.Nat.{ℕ, _<_, _≤_}
+use Prim.Native.Nat.{ℕ, _≤_}
 use native.Mathlib.Omega.{arith}
 use lib.ListN.{length}
 use Rattle.network.specs.declared.Network.{Network}
 use Rattle.network_file.specs.Accepted.{WellFormed}
 use Rattle.feeding.specs.Below.{marks}
-use Rattle.feeding.specs.Networks.{at}
 use Rattle.feeding.proofs.Marks.{length-marks}
 use Rattle.parts.specs.declared.Parts.{Parts}
 use Rattle.parts.specs.Labelling.{EndsBelow, partsOf}

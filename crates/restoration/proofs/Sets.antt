@@ -1,54 +1,29 @@
 -- The sets that the code makes one from another are the theory's, element by element.
 -- Assumes nothing.
 use mathlib.Core.Path.{_≡_, refl, sym, ap, ap₂, _∙_}
-use mathlib.Core.Bool.{Bool, true, false, not, _&&_, _||_}
+use mathlib.Core.Bool.{Bool, true, not, _&&_, _||_, or-self, and-comm}
 use mathlib.Core.List.{List, []}
-use Prim.Native.Nat.{ℕ, _+_, _<_, _≤_}
+use Prim.Native.Nat.{ℕ, _<_, _≤_}
 use native.Mathlib.Omega.{arith}
-use lib.Dec.{eqb, ltb}
+use lib.Dec.{eqb}
 use lib.ListN.{length, replicate, getD-replicate}
-use borrow.Author.Tests.{lt-ltb, eqb-true}
+use borrow.Author.Tests.{lt-ltb}
 use Rattle.network.specs.declared.Network.{Network}
 use Rattle.network_file.specs.Accepted.{WellFormed}
-use Rattle.feeding.specs.Below.{anyTo, marks, those}
-use Rattle.feeding.specs.Networks.{Grid, Net, netOf, gridOf, at, marked, isSource, isFaulty, isFixed, isClosed}
-use Rattle.feeding.specs.Parts.{Config, closedIn, label, joined?, sound?, live?}
+use Rattle.feeding.specs.Below.{marks}
+use Rattle.feeding.specs.Networks.{netOf, gridOf, at, marked}
+use Rattle.feeding.specs.Parts.{closedIn, label, joined?, sound?, live?}
 use Rattle.feeding.specs.Restoration.{spoiled?, clean, restorable?, waits?, operable?, operables}
+use Rattle.feeding.proofs.Below.{not-or}
 use Rattle.feeding.proofs.Lows.{those-ext}
+use Rattle.feeding.proofs.Marks.{marks-ext, marked-marks}
 use Rattle.feeding.proofs.States.{live-same}
-use Rattle.feeding.proofs.Marks.{marks-ext, marked-marks, length-marks}
+use Rattle.feeding.proofs.Tests.{sound-flag}
 use Rattle.parts.specs.declared.Parts.{Parts}
 use Rattle.parts.specs.Labelling.{partsOf}
 use Rattle.marks.specs.Sets.{oneOf, butNot, inMarkedPart, atEitherEnd, members}
 use Rattle.restoration.specs.Living.{ConfigurationReach, liveIn}
 use Rattle.restoration.proofs.Spreads.{spread-is}
-
-or-same : (b : Bool) → (b || b) ≡ b
-or-same true = refl
-or-same false = refl
-
-and-swap : (a b : Bool) → (a && b) ≡ (b && a)
-and-swap true true = refl
-and-swap true false = refl
-and-swap false true = refl
-and-swap false false = refl
-
-neither : (a b : Bool) → not (a || b) ≡ (not a && not b)
-neither true b = refl
-neither false b = refl
-
-not-both : (x y : Bool) → (x && not (y || x)) ≡ false
-not-both true true = refl
-not-both true false = refl
-not-both false y = refl
-
--- flags 1: a source that is not faulty
-sound-flag : (f : ℕ) → (eqb f 1 || eqb f 1) ≡ (isSource f && not (isFaulty f))
-sound-flag f = go (eqb f 1) refl
-  where
-    go : (t : Bool) → eqb f 1 ≡ t → (eqb f 1 || eqb f 1) ≡ (isSource f && not (isFaulty f))
-    go true e = rw (eqb-true f 1 e)
-    go false e = rw e (sym (not-both (eqb f 3) (eqb f 2)))
 
 module _ (E K : ℕ) (flags from to closed : List ℕ) (reach : ConfigurationReach flags from to closed E K) where
   -- the live elements
@@ -59,7 +34,9 @@ module _ (E K : ℕ) (flags from to closed : List ℕ) (reach : ConfigurationRea
       (λ l kl. (reach .from-in l kl, reach .to-in l kl)) (λ _ _. refl) sound (sound? (gridOf E K [] [] flags from to)) sound-is x k))
     where
       sound-is : (y : ℕ) → y < E → marked sound y ≡ sound? (gridOf E K [] [] flags from to) y
-      sound-is y k = ap (λ (xs : List ℕ). marked xs y) e ∙ marked-marks 96 E _ y (omega (arith, reach .elements-fit)) k ∙ sound-flag (at flags y)
+      sound-is y k =
+          ap (λ (xs : List ℕ). marked xs y) e ∙ marked-marks 96 E _ y (omega (arith, reach .elements-fit)) k
+          ∙ or-self (eqb (at flags y) 1) ∙ sound-flag (at flags y)
 
 ones : (x : ℕ) → x < 96 → marked (replicate 96 1) x ≡ true
 ones x k = rw (getD-replicate {A = ℕ} 96 x 1 0 k)
@@ -88,11 +65,13 @@ module _ (n : Network) (w : WellFormed n) where
       → parts ≡ partsOf (n .from) (n .to) fixed (n .links) → faulty ≡ marks 96 (n .elements) (oneOf (n .flags) 2 3)
       → marks 96 (n .elements) (inMarkedPart (parts .label) faulty (n .elements)) ≡ marks 96 (n .elements) (spoiled? (netOf n))
   unfolding spoiled? netOf gridOf oneOf
-  spoiled-is fixed parts faulty f p h = rw p (marks-ext 96 (n .elements) _ _ (spread-is (n .elements) (n .links) (n .load) (n .capacity) (n .flags) (n .from) (n .to) fixed (netOf n .fixed) (w .elements-fit) ends fixed-is faulty
-      (netOf n .grid .faulty) faulty-is))
+  spoiled-is fixed parts faulty f p h =
+      rw p (marks-ext 96 (n .elements) _ _
+      (spread-is (n .elements) (n .links) (n .load) (n .capacity) (n .flags) (n .from) (n .to) fixed (netOf n .fixed) (w .elements-fit) ends fixed-is
+      faulty (netOf n .grid .faulty) faulty-is))
     where
       fixed-is : (l : ℕ) → l < n .links → closedIn fixed l ≡ netOf n .fixed l
-      fixed-is l k = set-at (n .links) _ fixed (w .links-fit) f l k ∙ or-same (eqb (at (n .form) l) 0)
+      fixed-is l k = set-at (n .links) _ fixed (w .links-fit) f l k ∙ or-self (eqb (at (n .form) l) 0)
 
       faulty-is : (e : ℕ) → e < n .elements → marked faulty e ≡ netOf n .grid .faulty e
       faulty-is e k = set-at (n .elements) _ faulty fits h e k
@@ -108,7 +87,7 @@ module _ (n : Network) (w : WellFormed n) where
     clean-is touched all clear t a d l k =
         set-at (n .links) _ clear (w .links-fit) d l k
         ∙ ap₂ (λ (x y : Bool). x && not y) (ap (λ (xs : List ℕ). marked xs l) a ∙ ones l (omega (arith, w .links-fit))) (set-at (n .links) _ touched (w .links-fit) t l k)
-        ∙ neither (marked spoiled (at (n .from) l)) (marked spoiled (at (n .to) l))
+        ∙ not-or (marked spoiled (at (n .from) l)) (marked spoiled (at (n .to) l))
         ∙ ap₂ (λ (x y : Bool). not x && not y) (spoiled-at (at (n .from) l) (w .from-in l k)) (spoiled-at (at (n .to) l) (w .to-in l k))
 
     pub unspoiled-is : (source unspoiled : List ℕ) → source ≡ marks 96 (n .elements) (oneOf (n .flags) 1 3)
@@ -131,7 +110,7 @@ module _ (n : Network) (w : WellFormed n) where
         ∙ spread-is (n .elements) (n .links) (n .load) (n .capacity) (n .flags) (n .from) (n .to) clear (clean (netOf n)) (w .elements-fit) ends cl unspoiled
         (λ s. netOf n .grid .source s && not (spoiled? (netOf n) s)) un e k)
         (spoiled-at e k)
-        ∙ and-swap _ (not (spoiled? (netOf n) e)))
+        ∙ and-comm _ (not (spoiled? (netOf n) e)))
 
   -- the operable switches, from the restorable elements
   pub operable-is : (restorable closed live waiting ends fixed : List ℕ) → restorable ≡ marks 96 (n .elements) (restorable? (netOf n))
@@ -145,8 +124,8 @@ module _ (n : Network) (w : WellFormed n) where
   operable-is restorable closed live waiting ends fixed r c v x d f = marks-ext 96 (n .links) _ _ (λ l k.
       ap₂ (λ (a b : Bool). a && not b)
       (set-at (n .links) _ ends (w .links-fit) d l k ∙ ap₂ _||_ (waits-at (at (n .from) l) (w .from-in l k)) (waits-at (at (n .to) l) (w .to-in l k)))
-      (set-at (n .links) _ fixed (w .links-fit) f l k ∙ or-same (eqb (at (n .form) l) 0))
-      ∙ and-swap _ (not (eqb (at (n .form) l) 0))
+      (set-at (n .links) _ fixed (w .links-fit) f l k ∙ or-self (eqb (at (n .form) l) 0))
+      ∙ and-comm _ (not (eqb (at (n .form) l) 0))
       ∙ ap (λ (b : Bool). b && (not (eqb (at (n .form) l) 0) && (waits? (netOf n) (at (n .from) l) || waits? (netOf n) (at (n .to) l)))) (sym (lt-ltb l (n .links) k)))
     where
       live-at : (e : ℕ) → e < n .elements → marked live e ≡ live? (netOf n .grid) (netOf n .startClosed) e

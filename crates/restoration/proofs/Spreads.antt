@@ -1,13 +1,13 @@
 -- Labels that the code leaves are those of the theory, so a set spread over the parts is the theory's test over joined elements.
 -- Assumes nothing.
-use mathlib.Core.Path.{_≡_, refl, sym, ap, ap₂, _∙_}
+use mathlib.Core.Path.{_≡_, refl, ap, ap₂, _∙_}
 use mathlib.Core.Bool.{Bool, _&&_}
 use mathlib.Core.List.{List}
 use Prim.Native.Nat.{ℕ, _<_, _≤_}
 use lib.Dec.{eqb}
 use Rattle.feeding.specs.Below.{anyTo}
 use Rattle.feeding.specs.Networks.{gridOf, at, marked}
-use Rattle.feeding.specs.Parts.{Config, closedIn, labels, label, joined?}
+use Rattle.feeding.specs.Parts.{Config, closedIn, label, joined?}
 use Rattle.feeding.proofs.Below.{anyTo-ext}
 use Rattle.feeding.proofs.Labels.{labels-wider, labels-ext}
 use Rattle.parts.specs.Labelling.{partsOf}

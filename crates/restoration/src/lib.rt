@@ -79,8 +79,8 @@ pub fn operable_switches(net: Network) -> [u8; 96]
     let live = live_elements(&flags, &from, &to, &closed, net.elements, net.links);
     let waiting = except(&restorable, &live, net.elements);
     let ends = at_either_end(&from, &to, &waiting, net.links);
-    let fixed = marks_of(&form, 0, 0, net.links);
-    except(&ends, &fixed, net.links)
+    let unswitched = marks_of(&form, 0, 0, net.links);
+    except(&ends, &unswitched, net.links)
 }
 
 pub fn operable_count(net: Network) -> usize

@@ -1,9 +1,7 @@
 -- The live elements: the sound sources spread over the parts.
 -- Assumes nothing.
-use mathlib.Core.Path.{_≡_, refl, sym, ap, _∙_}
-use Prim.Native.Nat.{ℕ, _<_, _≤_}
+use mathlib.Core.Path.{_∙_}
 use native.Mathlib.Omega.{arith}
-use lib.ListN.{length}
 use borrow.Author.Needs.{needs}
 use Rattle.restoration.proofs.Reach.{marks-long, configuration-ends, parts-reach}
 use Rattle.restoration.proofs.Sets.{live-is}

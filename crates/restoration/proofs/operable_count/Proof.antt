@@ -1,11 +1,7 @@
 -- The count of the operable switches: as many as the list of them has.
 -- Assumes nothing.
-use mathlib.Core.Path.{_≡_, refl, sym, ap, _∙_}
-use Prim.Native.Nat.{ℕ, _<_, _≤_}
-use native.Mathlib.Omega.{arith}
-use lib.ListN.{length}
+use mathlib.Core.Path.{_∙_}
 use borrow.Author.Needs.{needs}
-use Rattle.restoration.proofs.Reach.{marks-reach}
 use Rattle.restoration.proofs.Sets.{count-is}
 use Rattle.restoration.proofs.operable_count.Statement.{statement}
 use Rattle.restoration.proofs.operable_count.Tie as tie

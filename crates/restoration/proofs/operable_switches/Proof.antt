@@ -1,11 +1,8 @@
 -- The operable switches: the links with a waiting end, without the fixed ones.
 -- Assumes nothing.
-use mathlib.Core.Path.{_≡_, refl, sym, ap, _∙_}
-use Prim.Native.Nat.{ℕ, _<_, _≤_}
-use native.Mathlib.Omega.{arith}
-use lib.ListN.{length}
+use mathlib.Core.Path.{_∙_}
 use borrow.Author.Needs.{needs}
-use Rattle.restoration.proofs.Reach.{marks-long, marks-reach, ends-reach, network-configuration}
+use Rattle.restoration.proofs.Reach.{marks-long, marks-reach, ends-reach}
 use Rattle.restoration.proofs.Sets.{operable-is}
 use Rattle.restoration.proofs.operable_switches.Statement.{statement}
 use Rattle.restoration.proofs.operable_switches.Tie as tie

@@ -1,9 +1,7 @@
 -- The restorable elements: the unspoiled sources spread over the parts of the clean links, and the spoiled ones taken away.
 -- Assumes nothing.
-use mathlib.Core.Path.{_≡_, refl, sym, ap, _∙_}
-use Prim.Native.Nat.{ℕ, _<_, _≤_}
+use mathlib.Core.Path.{refl, sym, _∙_}
 use native.Mathlib.Omega.{arith}
-use lib.ListN.{length}
 use borrow.Author.Needs.{needs}
 use Rattle.restoration.proofs.Reach.{marks-long, marks-reach, network-ends, ends-reach, parts-reach}
 use Rattle.restoration.proofs.Sets.{clean-is, unspoiled-is, restorable-is}

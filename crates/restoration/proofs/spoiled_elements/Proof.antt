@@ -1,9 +1,7 @@
 -- The spoiled elements: the faulty ones spread over the parts of the fixed links.
 -- Assumes nothing.
-use mathlib.Core.Path.{_≡_, refl, sym, ap, _∙_}
-use Prim.Native.Nat.{ℕ, _<_, _≤_}
+use mathlib.Core.Path.{_∙_}
 use native.Mathlib.Omega.{arith}
-use lib.ListN.{length}
 use borrow.Author.Needs.{needs}
 use Rattle.restoration.proofs.Reach.{marks-long, network-ends, parts-reach}
 use Rattle.restoration.proofs.Sets.{spoiled-is}

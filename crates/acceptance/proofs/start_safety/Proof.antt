@@ -1,0 +1,88 @@
+-- Rules 14 to 17 at the start: the check of the configuration that the forms give.
+-- Assumes nothing.
+use mathlib.Core.Path.{_∙_}
+use borrow.Author.Needs.{needs}
+use Rattle.acceptance.proofs.Start.{two-ends, checked, start-is}
+use Rattle.acceptance.proofs.start_safety.Statement.{statement}
+use Rattle.acceptance.proofs.start_safety.Tie as tie
+
+slice-aggregate-own-ends : tie.Need-slice-aggregate-own-ends
+slice-aggregate-own-ends c = search needs
+
+slice-aggregate-own-ends-2 : tie.Need-slice-aggregate-own-ends-2
+slice-aggregate-own-ends-2 c = search needs
+
+own-ends-requires : tie.Need-own-ends-requires
+own-ends-requires c κs =
+    let args· = c .before .before .before .before .before .before .before .before .args in
+    let pre· = c .before .before .before .before .before .before .before .before .pre in
+    two-ends (args· .net) pre·
+
+slice-aggregate-marks-of : tie.Need-slice-aggregate-marks-of
+slice-aggregate-marks-of c = search needs
+
+marks-of-requires : tie.Need-marks-of-requires
+marks-of-requires c κs = search needs
+
+slice-aggregate-check : tie.Need-slice-aggregate-check
+slice-aggregate-check c = search needs
+
+slice-aggregate-check-2 : tie.Need-slice-aggregate-check-2
+slice-aggregate-check-2 c = search needs
+
+slice-aggregate-check-3 : tie.Need-slice-aggregate-check-3
+slice-aggregate-check-3 c = search needs
+
+slice-aggregate-check-4 : tie.Need-slice-aggregate-check-4
+slice-aggregate-check-4 c = search needs
+
+slice-aggregate-check-5 : tie.Need-slice-aggregate-check-5
+slice-aggregate-check-5 c = search needs
+
+slice-aggregate-check-6 : tie.Need-slice-aggregate-check-6
+slice-aggregate-check-6 c = search needs
+
+slice-aggregate-check-7 : tie.Need-slice-aggregate-check-7
+slice-aggregate-check-7 c = search needs
+
+slice-aggregate-check-8 : tie.Need-slice-aggregate-check-8
+slice-aggregate-check-8 c = search needs
+
+slice-aggregate-check-9 : tie.Need-slice-aggregate-check-9
+slice-aggregate-check-9 c = search needs
+
+check-requires : tie.Need-check-requires
+check-requires c κs =
+    let args· = c .before .before .before .before .before .before .before .before .before .before .before .before .before .before .before .before .before .before .before .before .before .before .before .args in
+    let pre· = c .before .before .before .before .before .before .before .before .before .before .before .before .before .before .before .before .before .before .before .before .before .before .before .pre in
+    let own-ends· = c .before .before .before .before .before .before .before .before .before .before .before .before .before .before .own-ends in
+    let marks-of· = c .before .before .before .before .before .before .before .before .before .marks-of in
+    checked (args· .net) pre· (own-ends· .result) (marks-of· .result) (own-ends· .ensures) (marks-of· .ensures)
+
+returns : tie.Need-returns
+returns c =
+    let args· = c .before .before .before .before .before .before .before .before .before .before .before .before .before .before .before .before .before .before .before .before .before .before .before .before .args in
+    let pre· = c .before .before .before .before .before .before .before .before .before .before .before .before .before .before .before .before .before .before .before .before .before .before .before .before .pre in
+    let marks-of· = c .before .before .before .before .before .before .before .before .before .before .marks-of in
+    c .check .ensures ∙ start-is (args· .net) pre· (marks-of· .result) (marks-of· .ensures)
+
+pub start-safety-spec : {M : Type 1} → statement M
+start-safety-spec =
+    tie.close
+    (tie.spec
+    slice-aggregate-own-ends
+    slice-aggregate-own-ends-2
+    own-ends-requires
+    slice-aggregate-marks-of
+    marks-of-requires
+    slice-aggregate-check
+    slice-aggregate-check-2
+    slice-aggregate-check-3
+    slice-aggregate-check-4
+    slice-aggregate-check-5
+    slice-aggregate-check-6
+    slice-aggregate-check-7
+    slice-aggregate-check-8
+    slice-aggregate-check-9
+    check-requires
+    returns)

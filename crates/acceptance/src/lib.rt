@@ -1,0 +1,102 @@
+// Rules 14 to 18: a network that passed rules 1 to 13 is refused by the first that it breaks, or accepted.
+use loads::own_ends;
+use marks::marks_of;
+use network::Network;
+use network::refusal::Refusal;
+use network::refusal::Rule;
+use network_file::Answer;
+use network_file::NetworkRead;
+use network_file::read_network;
+use restoration::operable_count;
+use safety::check;
+ghost use mathlib.Core.Path.{_≡_};
+ghost use Rattle.network_file.specs.Accepted.{WellFormed};
+ghost use Rattle.network_file.specs.Inputs.{networkInput, networkRead};
+ghost use Rattle.feeding.specs.Acceptance.{limited, answerTo};
+ghost use Rattle.acceptance.specs.Reading.{startSafety, handedOut, acceptedRead};
+
+// Rules 14 to 17.
+fn start_safety(net: Network) -> Answer
+    requires { ⌜ WellFormed net ⌝ }
+    ensures { λ r. ⌜ r ≡ startSafety net ⌝ }
+{
+    let load = net.load;
+    let capacity = net.capacity;
+    let flags = net.flags;
+    let from = net.from;
+    let to = net.to;
+    let form = net.form;
+    let own = own_ends(&from, &to, net.links);
+    let head = own.head;
+    let next = own.next;
+    let far = own.far;
+    let closed = marks_of(&form, 0, 2, net.links);
+    check(
+        &load,
+        &capacity,
+        &flags,
+        &from,
+        &to,
+        &head,
+        &next,
+        &far,
+        &closed,
+        net.elements,
+        net.links,
+    )
+}
+
+// Rule 18.
+pub fn within_limit(limit: usize, count: usize) -> Answer
+    ensures { λ r. ⌜ r ≡ limited limit count ⌝ }
+{
+    if limit < count {
+        return Answer::Refused(Refusal {
+            rule: Rule::TooManyOperable,
+            place: count,
+        });
+    }
+    Answer::Accepted
+}
+
+pub fn accept(net: Network) -> Answer
+    requires { ⌜ WellFormed net ⌝ }
+    ensures { λ r. ⌜ r ≡ answerTo net ⌝ }
+{
+    let safe = start_safety(net);
+    match safe {
+        Answer::Refused(refusal) => Answer::Refused(refusal),
+        Answer::Accepted => {
+            let count = operable_count(net);
+            within_limit(Network::MAX_OPERABLE, count)
+        }
+    }
+}
+
+fn after(net: Network, answer: Answer) -> NetworkRead
+    ensures { λ r. ⌜ r ≡ handedOut net answer ⌝ }
+{
+    match answer {
+        Answer::Accepted => NetworkRead { answer, net },
+        Answer::Refused(_) => {
+            let none = Network::empty();
+            NetworkRead { answer, net: none }
+        }
+    }
+}
+
+// The planner's input: rules 1 to 13, then 14 to 18. A refusal hands out the empty network.
+pub fn read_accepted(s: &[u8]) -> NetworkRead
+    ensures { λ r. ⌜ r ≡ acceptedRead (networkRead (networkInput (now (s .entry)))) ⌝ }
+{
+    let read = read_network(s);
+    let answer = read.answer;
+    let net = read.net;
+    match answer {
+        Answer::Refused(_) => NetworkRead { answer, net },
+        Answer::Accepted => {
+            let decided = accept(net);
+            after(net, decided)
+        }
+    }
+}

@@ -1,0 +1,185 @@
+-- What each step of `check` asks of the lent lists, and what each of its answers is: the first rule of 14 to 17 that is broken.
+-- Assumes nothing.
+use mathlib.Core.Path.{_≡_, refl, sym, ap, _∙_}
+use mathlib.Core.Bool.{Bool, or-self}
+use mathlib.Core.List.{List}
+use Prim.Native.Nat.{ℕ, _<_, _≤_}
+use native.Mathlib.Omega.{arith}
+use lib.Dec.{eqb}
+use lib.ListN.{length}
+use borrow.Author.Tests.{lt-ltb, le-ltb}
+use Rattle.network.specs.declared.refusal.Rule.{Rule}
+use Rattle.network.specs.declared.refusal.Rule.the-variants.{NotATree, TwoSources, FaultWithSource, Overloaded}
+use Rattle.network_file.specs.declared.Answer.{Answer}
+use Rattle.network_file.specs.declared.Answer.the-variants.{Accepted}
+use Rattle.feeding.specs.Acceptance.{brokenAt, safety}
+use Rattle.feeding.specs.Below.{lowest, marks}
+use Rattle.feeding.specs.Loads.{lowestOver}
+use Rattle.feeding.specs.Networks.{Grid, gridOf, at, marked}
+use Rattle.feeding.specs.Parts.{Config, closedIn, label, sound?}
+use Rattle.feeding.specs.Safety.{treePlace, pairPlace, faultPlace}
+use Rattle.feeding.proofs.Decided.{broken, unbroken, trees-kept}
+use Rattle.feeding.proofs.Forest.{safe-bridges}
+use Rattle.feeding.proofs.Tests.{sound-flag}
+use Rattle.feeding.proofs.Marks.{length-marks, marked-marks}
+use Rattle.parts.specs.declared.Parts.{Parts}
+use Rattle.parts.specs.Labelling.{AllBelow, EndsBelow, partsOf, lastOfPart}
+use Rattle.parts.proofs.Grids.{label-long, looped-long, label-below, grid-ends, grid-label, grid-looped}
+use Rattle.parts.proofs.Lasts.{length-lasts}
+use Rattle.loads.specs.Ends.{ownEnds}
+use Rattle.loads.specs.Walks.{walkGrid, Lent, Carries, overPlace}
+use Rattle.loads.proofs.Same.{lent, over-place-is, carries}
+use Rattle.marks.specs.Sets.{Reach, oneOf}
+use Rattle.safety.specs.Places.{Checked, LoopsReach, LastReach, leastLooped, notLast, withLast, refused}
+use Rattle.safety.proofs.Places.{tree-place-is, pair-place-is, fault-place-is}
+
+-- ---- an answer by the place that was found
+
+found : (g : Grid) (r : Rule) (p q : ℕ) (rest : Answer) → p ≡ q → p < g .E → refused r p ≡ brokenAt g r q rest
+unfolding refused
+found g r p q rest e h = sym (broken g r p rest (lt-ltb p (g .E) h)) ∙ ap (λ z. brokenAt g r z rest) e
+
+passed : (g : Grid) (r : Rule) (p q : ℕ) (rest : Answer) → p ≡ q → g .E ≤ p → brokenAt g r q rest ≡ rest
+passed g r p q rest e h = unbroken g r q rest (le-ltb q (g .E) (omega arith))
+
+module _ {load capacity flags from to head next far closed : List ℕ} {E K : ℕ} (ok : Checked load capacity flags from to head next far closed E K) where
+  abbrev grid : Grid
+  grid = gridOf E K load capacity flags from to
+
+  abbrev config : Config
+  config = closedIn closed
+
+  pub ends : EndsBelow 64 from to closed K
+  ends = grid-ends E K load capacity flags from to closed (ok .formed) (ok .elements-fit) (ok .from-long) (ok .to-long) (ok .closed-long)
+
+  pub flags-reach : Reach flags E
+  flags-reach = record { fit = omega (arith, ok .elements-fit); long = ok .flags-long }
+
+  fit96 : E ≤ 96
+  fit96 = omega (arith, ok .elements-fit)
+
+  -- the marks of the sound sources, and of the faulty elements
+  sound-at : (sound : List ℕ) → sound ≡ marks 96 E (oneOf flags 1 1) → (s : ℕ) → s < E → marked sound s ≡ sound? grid s
+  unfolding oneOf sound? gridOf
+  sound-at sound e s k = ap (λ (xs : List ℕ). marked xs s) e ∙ marked-marks 96 E _ s fit96 k ∙ or-self (eqb (at flags s) 1) ∙ sound-flag (at flags s)
+
+  faulty-at : (faulty : List ℕ) → faulty ≡ marks 96 E (oneOf flags 2 3) → (e : ℕ) → e < E → marked faulty e ≡ grid .faulty e
+  unfolding oneOf gridOf
+  faulty-at faulty q e k = ap (λ (xs : List ℕ). marked xs e) q ∙ marked-marks 96 E _ e fit96 k
+
+  pub lists-lent : Lent head next far closed load capacity E K
+  lists-lent = rw (ok .head-is, ok .next-is, ok .far-is)
+      (lent E K load capacity flags from to (ok .formed) (ok .elements-fit) (ok .links-fit) (ownEnds (at from) (at to) K) refl
+      closed (ok .closed-long) (ok .load-long) (ok .capacity-long))
+
+  -- ---- with the parts
+
+  module _ {parts : Parts} (parts-is : parts ≡ partsOf from to closed K) where
+    label-fits : E ≤ length (parts .label)
+    label-fits = omega (arith, ok .elements-fit, ap (λ (p : Parts). length (p .label)) parts-is ∙ label-long from to closed K)
+
+    pub loops-reach : LoopsReach (parts .label) (parts .looped) E
+    loops-reach = record {
+      label-long = label-fits;
+      looped-long = omega (arith, ok .elements-fit, ap (λ (p : Parts). length (p .looped)) parts-is ∙ looped-long from to closed K);
+    }
+
+    pub labels-in : AllBelow 64 (parts .label) E
+    labels-in x k = omega (arith, ap (λ (p : Parts). at (p .label) x) parts-is, label-below from to closed K x)
+
+    label-at : (e : ℕ) → e < E → at (parts .label) e ≡ label grid config e
+    label-at e k = ap (λ (p : Parts). at (p .label) e) parts-is
+        ∙ grid-label E K load capacity flags from to closed (ok .formed) (ok .elements-fit) e k
+
+    -- the lists that the searches go over: the marks f, and the last of each part
+    module _ {has : List ℕ} (f : ℕ → Bool) (has-is : has ≡ marks 96 E f) where
+      has-fits : E ≤ length has
+      has-fits = omega (arith, fit96, ap length has-is ∙ length-marks 96 E f)
+
+      pub last-asks : (E ≤ 64) × (E ≤ length (parts .label)) × (E ≤ length has)
+      last-asks = (ok .elements-fit, label-fits, has-fits)
+
+      pub over-asks : (E ≤ 64) × (E ≤ length has)
+      over-asks = (ok .elements-fit, has-fits)
+
+      pub last-reach : (sound : List ℕ) {last : List ℕ} → last ≡ lastOfPart (parts .label) sound E → LastReach (parts .label) has last E
+      last-reach sound e = record {
+        label-long = label-fits;
+        has-long = has-fits;
+        label-in = λ x k. omega (arith, labels-in x k, ap length e ∙ length-lasts (parts .label) sound E);
+      }
+
+    -- ---- rule 14
+
+    module _ {tree : ℕ} (tree-is : tree ≡ leastLooped (parts .label) (parts .looped) E) where
+      tree-found : tree ≡ treePlace grid config
+      unfolding gridOf
+      tree-found = tree-is ∙ tree-place-is grid (ok .formed) config (parts .label) label-at (parts .looped)
+          (λ x k. ap (λ (p : Parts). marked (p .looped) x) parts-is
+          ∙ grid-looped E K load capacity flags from to closed (ok .formed) (ok .elements-fit) x (omega (arith, ok .elements-fit)))
+
+      pub not-a-tree : tree < E → refused NotATree tree ≡ safety grid config
+      unfolding safety gridOf
+      not-a-tree h = found grid NotATree tree (treePlace grid config) _ tree-found h
+
+      module _ (trees : E ≤ tree) {sound : List ℕ} (sound-is : sound ≡ marks 96 E (oneOf flags 1 1))
+          {last : List ℕ} (last-is : last ≡ lastOfPart (parts .label) sound E)
+          {pair : ℕ} (pair-is : pair ≡ lowest E (notLast (parts .label) sound last)) where
+        pair-found : pair ≡ pairPlace grid config
+        unfolding gridOf
+        pair-found = pair-is ∙ rw last-is (pair-place-is grid (ok .formed) config (parts .label) label-at (ok .elements-fit)
+            sound (sound-at sound sound-is))
+
+        -- ---- rule 15
+
+        pub two-sources : pair < E → refused TwoSources pair ≡ safety grid config
+        unfolding safety gridOf
+        two-sources h =
+            found grid TwoSources pair (pairPlace grid config) _ pair-found h
+            ∙ sym (passed grid NotATree tree (treePlace grid config) _ tree-found trees)
+
+        module _ (lone : E ≤ pair) {faulty : List ℕ} (faulty-is : faulty ≡ marks 96 E (oneOf flags 2 3))
+            {fault : ℕ} (fault-is : fault ≡ lowest E (withLast (parts .label) faulty last)) where
+          fault-found : fault ≡ faultPlace grid config
+          unfolding gridOf
+          fault-found = fault-is ∙ rw last-is (fault-place-is grid (ok .formed) config (parts .label) label-at (ok .elements-fit)
+              sound (sound-at sound sound-is) faulty (faulty-at faulty faulty-is))
+
+          -- ---- rule 16
+
+          pub fault-with-source : fault < E → refused FaultWithSource fault ≡ safety grid config
+          unfolding safety gridOf
+          fault-with-source h =
+              found grid FaultWithSource fault (faultPlace grid config) _ fault-found h
+              ∙ sym (passed grid NotATree tree (treePlace grid config) _ tree-found trees
+              ∙ passed grid TwoSources pair (pairPlace grid config) _ pair-found lone)
+
+          -- ---- rule 17
+
+          pub loads-carried : Carries (walkGrid E K far load capacity) config sound
+          unfolding gridOf
+          loads-carried = rw (ok .far-is)
+              (carries E K load capacity flags from to (ok .formed) (ok .elements-fit) (ok .links-fit) (ownEnds (at from) (at to) K) refl
+              config sound (safe-bridges grid (ok .formed) config
+              (trees-kept grid (ok .formed) config (le-ltb (treePlace grid config) E (omega (arith, tree-found))))) (ok .load-in))
+
+          module _ (clear : E ≤ fault) {over : ℕ} (over-is : over ≡ overPlace (walkGrid E K far load capacity) config sound) where
+            over-found : over ≡ lowestOver grid config
+            over-found = over-is ∙ rw (ok .far-is)
+                (over-place-is E K load capacity flags from to (ok .formed) (ok .elements-fit) (ok .links-fit) (ownEnds (at from) (at to) K) refl
+                config sound (sound-at sound sound-is))
+
+            kept : safety grid config ≡ brokenAt grid Overloaded (lowestOver grid config) Accepted
+            unfolding safety gridOf
+            kept =
+                passed grid NotATree tree (treePlace grid config) _ tree-found trees
+                ∙ passed grid TwoSources pair (pairPlace grid config) _ pair-found lone
+                ∙ passed grid FaultWithSource fault (faultPlace grid config) _ fault-found clear
+
+            pub overloaded : over < E → refused Overloaded over ≡ safety grid config
+            unfolding gridOf
+            overloaded h = found grid Overloaded over (lowestOver grid config) Accepted over-found h ∙ sym kept
+
+            pub accepted : E ≤ over → Accepted ≡ safety grid config
+            unfolding gridOf
+            accepted h = sym (kept ∙ passed grid Overloaded over (lowestOver grid config) Accepted over-found h)

@@ -1,0 +1,128 @@
+// Whether a configuration is safe, and the rule of 14 to 17 that it breaks first, with its place.
+use loads::over_place;
+use marks::marks_of;
+use network::refusal::Refusal;
+use network::refusal::Rule;
+use network_file::Answer;
+use parts::last_of_part;
+use parts::parts_of;
+ghost use mathlib.Core.Path.{_≡_};
+ghost use Prim.Native.Nat.{_<_};
+ghost use Rattle.feeding.specs.Below.{lowest};
+ghost use Rattle.feeding.specs.Networks.{gridOf};
+ghost use Rattle.feeding.specs.Parts.{closedIn};
+ghost use Rattle.feeding.specs.Acceptance.{safety};
+ghost use Rattle.safety.specs.Places.{Checked, LoopsReach, LastReach, refused, leastLooped, notLast, withLast};
+
+// Rule 14: the lowest label of a part in which a loop closed.
+pub fn tree_place(label: &[u8], looped: &[u8], elements: usize) -> usize
+    requires { ⌜ LoopsReach (now label) (now looped) elements ⌝ }
+    ensures { λ r. ⌜ r ≡ leastLooped (now (label .entry)) (now (looped .entry)) elements ⌝ }
+{
+    let mut place = elements;
+    let mut x: usize = 0;
+    while x < elements {
+        if looped[x] == 1 {
+            let k = label[x] as usize;
+            if k < place {
+                place = k;
+            }
+        }
+        x += 1;
+    }
+    place
+}
+
+// Rule 15: the lowest sound source that is not the last of its part.
+pub fn pair_place(label: &[u8], sound: &[u8], last: &[u8], elements: usize) -> usize
+    requires { ⌜ LastReach (now label) (now sound) (now last) elements ⌝ }
+    ensures { λ r. ⌜ r ≡ lowest elements (notLast (now (label .entry)) (now (sound .entry)) (now (last .entry))) ⌝ }
+{
+    let mut s: usize = 0;
+    while s < elements {
+        if sound[s] == 1 {
+            let k = label[s] as usize;
+            if last[k] as usize != s {
+                return s;
+            }
+        }
+        s += 1;
+    }
+    elements
+}
+
+// Rule 16: the lowest faulty element whose part has a sound source.
+pub fn fault_place(label: &[u8], faulty: &[u8], last: &[u8], elements: usize) -> usize
+    requires { ⌜ LastReach (now label) (now faulty) (now last) elements ⌝ }
+    ensures { λ r. ⌜ r ≡ lowest elements (withLast (now (label .entry)) (now (faulty .entry)) (now (last .entry))) ⌝ }
+{
+    let mut x: usize = 0;
+    while x < elements {
+        if faulty[x] == 1 {
+            let k = label[x] as usize;
+            if last[k] < 64 {
+                return x;
+            }
+        }
+        x += 1;
+    }
+    elements
+}
+
+fn broken(rule: Rule, place: usize) -> Answer
+    ensures { λ r. ⌜ r ≡ refused rule place ⌝ }
+{
+    Answer::Refused(Refusal { rule, place })
+}
+
+// The first of rules 14 to 17 that the configuration breaks; closed[l] is 1 for a closed link, and head, next and far are the links' ends.
+pub fn check<'a>(
+    load: &'a [u32],
+    capacity: &'a [u32],
+    flags: &'a [u16],
+    from: &'a [u16],
+    to: &'a [u16],
+    head: &'a [u8],
+    next: &'a [u8],
+    far: &'a [u8],
+    closed: &'a [u8],
+    elements: usize,
+    links: usize,
+) -> Answer
+    requires { ⌜ Checked (now load) (now capacity) (now flags) (now from) (now to) (now head) (now next) (now far) (now closed) elements links ⌝ }
+    ensures { λ r. ⌜ r ≡ safety (gridOf elements links (now (load .entry)) (now (capacity .entry)) (now (flags .entry)) (now (from .entry)) (now (to .entry))) (closedIn (now (closed .entry))) ⌝ }
+{
+    let parts = parts_of(from, to, closed, links);
+    let label = parts.label;
+    let looped = parts.looped;
+    let tree = tree_place(&label, &looped, elements);
+    if tree < elements {
+        return broken(Rule::NotATree, tree);
+    }
+    let sound = marks_of(flags, 1, 1, elements);
+    let last = last_of_part(&label, &sound, elements);
+    let pair = pair_place(&label, &sound, &last, elements);
+    if pair < elements {
+        return broken(Rule::TwoSources, pair);
+    }
+    let faulty = marks_of(flags, 2, 3, elements);
+    let fault = fault_place(&label, &faulty, &last, elements);
+    if fault < elements {
+        return broken(Rule::FaultWithSource, fault);
+    }
+    let over = over_place(
+        head,
+        next,
+        far,
+        closed,
+        load,
+        capacity,
+        &sound,
+        elements,
+        links,
+    );
+    if over < elements {
+        return broken(Rule::Overloaded, over);
+    }
+    Answer::Accepted
+}
