@@ -14,10 +14,10 @@ use Rattle.feeding.specs.Acceptance.{safety}
 use Rattle.feeding.proofs.Marks.{length-marks}
 use Rattle.feeding.proofs.States.{safety-same}
 use Rattle.feeding.proofs.Views.{formed-net}
-use Rattle.loads.specs.declared.OwnEnds.{OwnEnds}
-use Rattle.loads.specs.Ends.{TwoEnds, ownEnds}
+use Rattle.ends.specs.declared.OwnEnds.{OwnEnds}
+use Rattle.ends.specs.Ends.{TwoEnds, ownEnds}
 use Rattle.marks.specs.Sets.{oneOf}
-use Rattle.safety.specs.Places.{Checked}
+use Rattle.safety.specs.Checks.{Checked}
 use Rattle.restoration.proofs.Sets.{closed-at}
 use Rattle.acceptance.specs.Reading.{startSafety}
 

@@ -1,5 +1,5 @@
 // Rules 14 to 18: a network that passed rules 1 to 13 is refused by the first that it breaks, or accepted.
-use loads::own_ends;
+use ends::own_ends;
 use marks::marks_of;
 use network::Network;
 use network::refusal::Refusal;
@@ -7,7 +7,7 @@ use network::refusal::Rule;
 use network_file::Answer;
 use network_file::NetworkRead;
 use network_file::read_network;
-use restoration::operable_count;
+use operable::operable_count;
 use safety::check;
 ghost use mathlib.Core.Path.{_≡_};
 ghost use Rattle.network_file.specs.Accepted.{WellFormed};

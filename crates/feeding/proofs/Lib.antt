@@ -16,5 +16,6 @@ pub mod States
 pub mod Sums
 pub mod Tests
 pub mod Trees
+pub mod Validity
 pub mod Views
 pub mod Walk

@@ -1,16 +1,22 @@
 -- From the struct to the theory: a well-formed network has a well-formed grid, so the balance and the central theorem hold of its plans.
 -- Assumes nothing.
-use Prim.Native.Nat.{ℕ, _+_}
+use Prim.Native.Nat.{ℕ, _+_, _≤_}
+use native.Mathlib.Omega.{arith}
 use mathlib.Core.Path.{_≡_}
 use mathlib.Core.Bool.{true}
 use mathlib.Core.List.{List}
 use lib.Dec.{eqb}
+use lib.ListN.{length}
 use Rattle.network.specs.declared.Network.{Network}
 use Rattle.network_file.specs.Accepted.{WellFormed}
-use Rattle.feeding.specs.Networks.{Formed, at, gridOf, netOf}
+use Rattle.network_file.specs.declared.Answer.{Answer}
+use Rattle.network_file.specs.declared.Answer.the-variants.{Accepted}
+use Rattle.feeding.specs.Acceptance.{Answered, not-a-tree, two-sources, fault-with-source, overloaded, too-many, accepted, answerTo}
+use Rattle.feeding.specs.Networks.{Net, Formed, at, gridOf, netOf}
 use Rattle.feeding.specs.Plans.{Step, run, Good, ValidPlan}
-use Rattle.feeding.specs.Restoration.{Restored, operable?, fedLoad, darkLoad, lostLoad, totalLoad}
+use Rattle.feeding.specs.Restoration.{Restored, operable?, operables, fedLoad, darkLoad, lostLoad, totalLoad}
 use Rattle.feeding.specs.Safety.{Safe}
+use Rattle.feeding.proofs.Answers.{operables-counted, operables-unique, acceptance-answered, answered-acceptance}
 use Rattle.feeding.proofs.Balance.{fixed-kept, balance}
 use Rattle.feeding.proofs.Below.{or-left}
 use Rattle.feeding.proofs.Printed.{run-safe, plain, Matched, matched}
@@ -24,6 +30,30 @@ formed-net n w = record { endA-lt = w .from-in; endB-lt = w .to-in; differ = w .
 pub fixed-closed : (n : Network) (l : ℕ) → netOf n .fixed l ≡ true → netOf n .startClosed l ≡ true
 unfolding netOf
 fixed-closed n l h = or-left (eqb (at (n .form) l) 0) _ h
+
+-- rules 14 to 18 of a network that was read
+pub network-answered : (n : Network) → WellFormed n → Answered (netOf n) (answerTo n)
+network-answered n w = acceptance-answered (netOf n) (formed-net n w)
+
+pub answered-network : (n : Network) → WellFormed n → (a : Answer) → Answered (netOf n) a → a ≡ answerTo n
+answered-network n w a h = answered-acceptance (netOf n) (formed-net n w) a h
+
+-- an accepted network starts safe, and at most 12 of its switches are operable
+pub record Starts (net : Net) : Type 0 where
+  pub safe : Safe (net .grid) (net .startClosed)
+  pub few : length (operables net) ≤ 12
+
+pub accepted-starts : (n : Network) → WellFormed n → answerTo n ≡ Accepted → Starts (netOf n)
+accepted-starts n w e = go (answerTo n) (network-answered n w) e
+  where
+    go : (a : Answer) → Answered (netOf n) a → a ≡ Accepted → Starts (netOf n)
+    go _ (accepted {n = m} s o h) e =
+        record { safe = s; few = omega (arith, operables-unique (netOf n) m (length (operables (netOf n))) o (operables-counted (netOf n) (formed-net n w))) }
+    go _ (not-a-tree _ _) e = let z : _≡_ {A = ℕ} 0 1 = cc in absurd (omega arith)
+    go _ (two-sources _ _ _) e = let z : _≡_ {A = ℕ} 0 1 = cc in absurd (omega arith)
+    go _ (fault-with-source _ _ _ _) e = let z : _≡_ {A = ℕ} 0 1 = cc in absurd (omega arith)
+    go _ (overloaded _ _ _ _ _) e = let z : _≡_ {A = ℕ} 0 1 = cc in absurd (omega arith)
+    go _ (too-many _ _ _) e = let z : _≡_ {A = ℕ} 0 1 = cc in absurd (omega arith)
 
 module _ (n : Network) (well : WellFormed n) (safe : Safe (netOf n .grid) (netOf n .startClosed)) (q : List Step) where
   -- after any good steps, fed, dark and lost loads add up to the total

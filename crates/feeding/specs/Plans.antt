@@ -8,8 +8,8 @@ use lib.Dec.{eqb}
 use Rattle.feeding.specs.Below.{sumTo, gate}
 use Rattle.feeding.specs.Networks.{Net}
 use Rattle.feeding.specs.Parts.{Config}
-use Rattle.feeding.specs.Safety.{Safe}
-use Rattle.feeding.specs.Restoration.{operable?, Restored}
+use Rattle.feeding.specs.Safety.{Safe, safe?}
+use Rattle.feeding.specs.Restoration.{operable?, Restored, restored?}
 
 pub record Step : Type 0 where
   pub link : ℕ
@@ -39,9 +39,29 @@ pub record Valid (net : Net) (op : ℕ → Bool) (goal : Config → Type 0) (q :
   pub good : Good net op (net .startClosed) q
   pub meets : goal (run (net .startClosed) q)
 
--- the plans of document 01: its operable switches, and "in the last one every restorable element is live"
+-- the plans of document 01: its operable switches (`operable?-in` and `operable?-out` say that the test tells them), and "in the last one
+-- every restorable element is live"
 abbrev pub ValidPlan : Net → List Step → Type 0
 ValidPlan net q = Valid net (operable? net) (Restored net) q
+
+-- ---- what computes
+
+-- two states are not the same
+abbrev pub differ : Bool → Bool → Bool
+differ true b = not b
+differ false b = b
+
+unfoldable pub goodStep? : Net → (ℕ → Bool) → Config → Step → Bool
+goodStep? net op c s = op (s .link) && (differ (c (s .link)) (s .want) && safe? (net .grid) (put c (s .link) (s .want)))
+
+unfoldable pub good? : Net → (ℕ → Bool) → Config → List Step → Bool
+good? net op c [] = true
+good? net op c (s ∷ q) = goodStep? net op c s && good? net op (put c (s .link) (s .want)) q
+
+unfoldable pub valid? : Net → List Step → Bool
+valid? net q = good? net (operable? net) (net .startClosed) q && restored? net (run (net .startClosed) q)
+
+-- ---- cost, and the printed form
 
 -- "A step costs what its switch's record states, again at each operation. The cost of a plan is the sum of its steps' costs."
 unfoldable pub costOf : Net → List Step → ℕ
@@ -61,10 +81,6 @@ sweep w pick (suc n) = sweep w pick n ++ cond (pick n) (record { link = n; want 
 -- "It operates each of its switches once: first the openings, then the closings, each group by rising link number", for the set D
 unfoldable pub printedForm : Net → (ℕ → Bool) → List Step
 printedForm net D = sweep false (λ l. D l && net .startClosed l) (net .grid .K) ++ sweep true (λ l. D l && not (net .startClosed l)) (net .grid .K)
-
-abbrev pub differ : Bool → Bool → Bool
-differ true b = not b
-differ false b = b
 
 -- the configuration c with the switches of the set D operated
 unfoldable pub flip : Config → (ℕ → Bool) → Config

@@ -10,10 +10,10 @@ use native.Mathlib.Omega.{arith}
 use Rattle.feeding.specs.Networks.{Grid, Formed, at}
 use Rattle.feeding.specs.Parts.{Config, closedIn, far}
 use Rattle.feeding.specs.Loads.{elementLoad, linkLoad, elementOver, linkOver}
-use Rattle.loads.specs.Ends.{ownEnd}
+use Rattle.ends.specs.Ends.{ownEnd}
 use Rattle.loads.specs.Walks.{endsA, endsB, nearAt, walkGrid, Lent, lowerOver, elementCarried, linkCarried}
 use Rattle.loads.specs.declared.Carried.{Carried}
-use Rattle.loads.proofs.Chains.{end-even, end-odd, ownEnd-ge}
+use Rattle.ends.proofs.Chains.{end-even, end-odd, ownEnd-ge}
 use Rattle.loads.proofs.Rounds.{Walked, walked-start, walked-below, walked-near, walked-on, walked-open, walked-via}
 use Rattle.loads.proofs.Rounds.{walked-room, walked-done, element-none, link-none, link-more, link-load}
 

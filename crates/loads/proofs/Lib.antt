@@ -1,6 +1,4 @@
-pub mod Chains
 pub mod Lending
 pub mod Rounds
 pub mod Same
 pub mod Sources
-pub mod Turns

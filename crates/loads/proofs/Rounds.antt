@@ -14,10 +14,10 @@ use Rattle.feeding.proofs.Below.{and-both, orElse}
 use Rattle.feeding.proofs.Labels.{far-lt}
 use Rattle.feeding.proofs.Lows.{leastTo-no, leastTo-more, leastTo-top, leastTo-gap, leastTo-pairs}
 use Rattle.feeding.proofs.Sums.{sumTo-no, sumTo-more, sumTo-gap, sumTo-grows, sumTo-pairs}
-use Rattle.loads.specs.Ends.{endAt, ownEnd}
+use Rattle.ends.specs.Ends.{endAt, ownEnd}
 use Rattle.loads.specs.Walks.{lowerOver, elementCarried, linkCarried}
-use Rattle.loads.proofs.Chains.{end-first, end-second, own, own-below, own-at, own-past}
-use Rattle.loads.proofs.Chains.{ownEnd-le, ownEnd-ge, ownEnd-has, ownEnd-none, ownEnd-twice}
+use Rattle.ends.proofs.Chains.{end-first, end-second, own, own-below, own-at, own-past}
+use Rattle.ends.proofs.Chains.{ownEnd-le, ownEnd-ge, ownEnd-has, ownEnd-none, ownEnd-twice}
 
 -- ---- the lower of two numbers, where the load is above the capacity
 

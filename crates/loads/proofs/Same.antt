@@ -20,10 +20,10 @@ use Rattle.feeding.proofs.Lows.{length-tabulate, at-tabulate, leastTo-ext, lowe
 use Rattle.feeding.proofs.States.{Alike, elementLoad-alike, elementOver-alike}
 use Rattle.feeding.proofs.Sums.{sumTo-below}
 use Rattle.feeding.proofs.Walk.{start}
-use Rattle.loads.specs.Ends.{TwoEnds, endAt, farAt, ownEnd, ownEnds}
+use Rattle.ends.specs.Ends.{TwoEnds, endAt, farAt, ownEnd, ownEnds}
 use Rattle.loads.specs.Walks.{endsA, endsB, walkGrid, Lent, Carries, overPlace}
-use Rattle.loads.specs.declared.OwnEnds.{OwnEnds}
-use Rattle.loads.proofs.Chains.{end-even, end-odd, end-first, end-second, own, ownEnd-is}
+use Rattle.ends.specs.declared.OwnEnds.{OwnEnds}
+use Rattle.ends.proofs.Chains.{end-even, end-odd, end-first, end-second, own, ownEnd-is}
 
 -- ---- equal ends give equal chains
 

@@ -10,7 +10,7 @@ use Rattle.feeding.specs.Below.{leastTo}
 use Rattle.feeding.specs.Networks.{Grid, at}
 use Rattle.feeding.specs.Parts.{Config}
 use Rattle.feeding.specs.Loads.{elementLoad, linkLoad, elementOver, linkOver}
-use Rattle.loads.specs.Ends.{endAt, ownEnd}
+use Rattle.ends.specs.Ends.{endAt, ownEnd}
 use Rattle.loads.specs.declared.Carried.{Carried}
 
 -- the two ends of a link by the far elements of its ends

@@ -1,27 +1,25 @@
 -- The sets that the code makes one from another are the theory's, element by element.
 -- Assumes nothing.
-use mathlib.Core.Path.{_≡_, refl, sym, ap, ap₂, _∙_}
-use mathlib.Core.Bool.{Bool, true, not, _&&_, _||_, or-self, and-comm}
+use mathlib.Core.Path.{_≡_, refl, ap, ap₂, _∙_}
+use mathlib.Core.Bool.{Bool, true, not, _&&_, or-self, and-comm}
 use mathlib.Core.List.{List, []}
 use Prim.Native.Nat.{ℕ, _<_, _≤_}
 use native.Mathlib.Omega.{arith}
 use lib.Dec.{eqb}
-use lib.ListN.{length, replicate, getD-replicate}
-use borrow.Author.Tests.{lt-ltb}
+use lib.ListN.{replicate, getD-replicate}
 use Rattle.network.specs.declared.Network.{Network}
 use Rattle.network_file.specs.Accepted.{WellFormed}
 use Rattle.feeding.specs.Below.{marks}
 use Rattle.feeding.specs.Networks.{netOf, gridOf, at, marked}
 use Rattle.feeding.specs.Parts.{closedIn, label, joined?, sound?, live?}
-use Rattle.feeding.specs.Restoration.{spoiled?, clean, restorable?, waits?, operable?, operables}
+use Rattle.feeding.specs.Restoration.{spoiled?, clean, restorable?}
 use Rattle.feeding.proofs.Below.{not-or}
-use Rattle.feeding.proofs.Lows.{those-ext}
 use Rattle.feeding.proofs.Marks.{marks-ext, marked-marks}
 use Rattle.feeding.proofs.States.{live-same}
 use Rattle.feeding.proofs.Tests.{sound-flag}
 use Rattle.parts.specs.declared.Parts.{Parts}
 use Rattle.parts.specs.Labelling.{partsOf}
-use Rattle.marks.specs.Sets.{oneOf, butNot, inMarkedPart, atEitherEnd, members}
+use Rattle.marks.specs.Sets.{oneOf, butNot, inMarkedPart, atEitherEnd}
 use Rattle.restoration.specs.Living.{ConfigurationReach, liveIn}
 use Rattle.restoration.proofs.Spreads.{spread-is}
 
@@ -45,10 +43,10 @@ module _ (n : Network) (w : WellFormed n) where
   ends : (l : ℕ) → l < n .links → (at (n .from) l < n .elements) × (at (n .to) l < n .elements)
   ends l k = (w .from-in l k, w .to-in l k)
 
-  set-at : (m : ℕ) (f : ℕ → Bool) (xs : List ℕ) → m ≤ 96 → xs ≡ marks 96 m f → (x : ℕ) → x < m → marked xs x ≡ f x
+  pub set-at : (m : ℕ) (f : ℕ → Bool) (xs : List ℕ) → m ≤ 96 → xs ≡ marks 96 m f → (x : ℕ) → x < m → marked xs x ≡ f x
   set-at m f xs fit e x k = ap (λ (ys : List ℕ). marked ys x) e ∙ marked-marks 96 m f x fit k
 
-  fits : n .elements ≤ 96
+  pub fits : n .elements ≤ 96
   fits = omega (arith, w .elements-fit)
 
   -- the states at the start are the configuration at the start
@@ -56,7 +54,7 @@ module _ (n : Network) (w : WellFormed n) where
   unfolding netOf oneOf
   closed-at closed c l k = set-at (n .links) _ closed (w .links-fit) c l k
 
-  live-at-start : (closed : List ℕ) → closed ≡ marks 96 (n .links) (oneOf (n .form) 0 2) → (e : ℕ)
+  pub live-at-start : (closed : List ℕ) → closed ≡ marks 96 (n .links) (oneOf (n .form) 0 2) → (e : ℕ)
       → liveIn (n .elements) (n .links) (n .flags) (n .from) (n .to) closed e ≡ live? (netOf n .grid) (netOf n .startClosed) e
   unfolding liveIn live? sound? joined? label netOf gridOf
   live-at-start closed c e = live-same (netOf n .grid) (closedIn closed) (netOf n .startClosed) (closed-at closed c) e
@@ -111,29 +109,3 @@ module _ (n : Network) (w : WellFormed n) where
         (λ s. netOf n .grid .source s && not (spoiled? (netOf n) s)) un e k)
         (spoiled-at e k)
         ∙ and-comm _ (not (spoiled? (netOf n) e)))
-
-  -- the operable switches, from the restorable elements
-  pub operable-is : (restorable closed live waiting ends fixed : List ℕ) → restorable ≡ marks 96 (n .elements) (restorable? (netOf n))
-      → closed ≡ marks 96 (n .links) (oneOf (n .form) 0 2)
-      → live ≡ marks 96 (n .elements) (liveIn (n .elements) (n .links) (n .flags) (n .from) (n .to) closed)
-      → waiting ≡ marks 96 (n .elements) (butNot restorable live)
-      → ends ≡ marks 96 (n .links) (atEitherEnd (n .from) (n .to) waiting)
-      → fixed ≡ marks 96 (n .links) (oneOf (n .form) 0 0)
-      → marks 96 (n .links) (butNot ends fixed) ≡ marks 96 (n .links) (operable? (netOf n))
-  unfolding operable? waits? netOf gridOf butNot atEitherEnd oneOf liveIn
-  operable-is restorable closed live waiting ends fixed r c v x d f = marks-ext 96 (n .links) _ _ (λ l k.
-      ap₂ (λ (a b : Bool). a && not b)
-      (set-at (n .links) _ ends (w .links-fit) d l k ∙ ap₂ _||_ (waits-at (at (n .from) l) (w .from-in l k)) (waits-at (at (n .to) l) (w .to-in l k)))
-      (set-at (n .links) _ fixed (w .links-fit) f l k ∙ or-self (eqb (at (n .form) l) 0))
-      ∙ and-comm _ (not (eqb (at (n .form) l) 0))
-      ∙ ap (λ (b : Bool). b && (not (eqb (at (n .form) l) 0) && (waits? (netOf n) (at (n .from) l) || waits? (netOf n) (at (n .to) l)))) (sym (lt-ltb l (n .links) k)))
-    where
-      live-at : (e : ℕ) → e < n .elements → marked live e ≡ live? (netOf n .grid) (netOf n .startClosed) e
-      live-at e k = set-at (n .elements) _ live fits v e k ∙ live-at-start closed c e
-
-      waits-at : (e : ℕ) → e < n .elements → marked waiting e ≡ waits? (netOf n) e
-      waits-at e k = set-at (n .elements) _ waiting fits x e k ∙ ap₂ (λ (a b : Bool). a && not b) (set-at (n .elements) _ restorable fits r e k) (live-at e k)
-
-  pub count-is : (operable : List ℕ) → operable ≡ marks 96 (n .links) (operable? (netOf n)) → length (members operable (n .links)) ≡ length (operables (netOf n))
-  unfolding members operables netOf gridOf
-  count-is operable o = ap length (those-ext (n .links) _ _ (λ l k. set-at (n .links) _ operable (w .links-fit) o l k))

@@ -1,17 +1,15 @@
-// What a network's faults spoil, what can be restored, and which switches may be operated for it: sets of elements or links, 1 for a member.
+// What a network's faults spoil, what can be restored, and what is live: sets of elements, 1 for a member.
 use marks::at_either_end;
-use marks::count_of;
 use marks::except;
 use marks::marks_of;
 use marks::spread;
 use network::Network;
 use parts::parts_of;
 ghost use mathlib.Core.Path.{_≡_};
-ghost use lib.ListN.{length};
 ghost use Rattle.network_file.specs.Accepted.{WellFormed};
 ghost use Rattle.feeding.specs.Below.{marks};
 ghost use Rattle.feeding.specs.Networks.{netOf};
-ghost use Rattle.feeding.specs.Restoration.{spoiled?, restorable?, operable?, operables};
+ghost use Rattle.feeding.specs.Restoration.{spoiled?, restorable?};
 ghost use Rattle.restoration.specs.Living.{ConfigurationReach, liveIn};
 
 pub fn spoiled_elements(net: Network) -> [u8; 96]
@@ -64,29 +62,4 @@ pub fn live_elements<'a>(
     let label = parts.label;
     let sound = marks_of(flags, 1, 1, elements);
     spread(&label, &sound, elements)
-}
-
-pub fn operable_switches(net: Network) -> [u8; 96]
-    requires { ⌜ WellFormed net ⌝ }
-    ensures { λ r. ⌜ r ≡ marks 96 (net .links) (operable? (netOf net)) ⌝ }
-{
-    let from = net.from;
-    let to = net.to;
-    let flags = net.flags;
-    let form = net.form;
-    let restorable = restorable_elements(net);
-    let closed = marks_of(&form, 0, 2, net.links);
-    let live = live_elements(&flags, &from, &to, &closed, net.elements, net.links);
-    let waiting = except(&restorable, &live, net.elements);
-    let ends = at_either_end(&from, &to, &waiting, net.links);
-    let unswitched = marks_of(&form, 0, 0, net.links);
-    except(&ends, &unswitched, net.links)
-}
-
-pub fn operable_count(net: Network) -> usize
-    requires { ⌜ WellFormed net ⌝ }
-    ensures { λ r. ⌜ r ≡ length (operables (netOf net)) ⌝ }
-{
-    let operable = operable_switches(net);
-    count_of(&operable, net.links)
 }

@@ -17,7 +17,7 @@ use Rattle.feeding.proofs.Labels.{label-of-label, label-lowest}
 use Rattle.feeding.proofs.Lows.{lowest-ext, lowest-is, lowest-unique, leastTo-top, leastTo-le, leastTo-or}
 use Rattle.parts.specs.Labelling.{lastOfPart}
 use Rattle.parts.proofs.Lasts.{last-live, last-other}
-use Rattle.safety.specs.Places.{leastLooped, notLast, withLast}
+use Rattle.places.specs.Places.{leastLooped, notLast, withLast}
 
 -- one of two sound sources with one label
 record Two (g : Grid) (c : Config) (s : ℕ) : Type 0 where

@@ -26,11 +26,12 @@ use Rattle.parts.specs.declared.Parts.{Parts}
 use Rattle.parts.specs.Labelling.{AllBelow, EndsBelow, partsOf, lastOfPart}
 use Rattle.parts.proofs.Grids.{label-long, looped-long, label-below, grid-ends, grid-label, grid-looped}
 use Rattle.parts.proofs.Lasts.{length-lasts}
-use Rattle.loads.specs.Ends.{ownEnds}
+use Rattle.ends.specs.Ends.{ownEnds}
 use Rattle.loads.specs.Walks.{walkGrid, Lent, Carries, overPlace}
 use Rattle.loads.proofs.Same.{lent, over-place-is, carries}
 use Rattle.marks.specs.Sets.{Reach, oneOf}
-use Rattle.safety.specs.Places.{Checked, LoopsReach, LastReach, leastLooped, notLast, withLast, refused}
+use Rattle.places.specs.Places.{LoopsReach, LastReach, leastLooped, notLast, withLast}
+use Rattle.safety.specs.Checks.{Checked, refused}
 use Rattle.safety.proofs.Places.{tree-place-is, pair-place-is, fault-place-is}
 
 -- ---- an answer by the place that was found

@@ -6,68 +6,15 @@ use network::refusal::Rule;
 use network_file::Answer;
 use parts::last_of_part;
 use parts::parts_of;
+use places::fault_place;
+use places::pair_place;
+use places::tree_place;
 ghost use mathlib.Core.Path.{_≡_};
 ghost use Prim.Native.Nat.{_<_};
-ghost use Rattle.feeding.specs.Below.{lowest};
 ghost use Rattle.feeding.specs.Networks.{gridOf};
 ghost use Rattle.feeding.specs.Parts.{closedIn};
 ghost use Rattle.feeding.specs.Acceptance.{safety};
-ghost use Rattle.safety.specs.Places.{Checked, LoopsReach, LastReach, refused, leastLooped, notLast, withLast};
-
-// Rule 14: the lowest label of a part in which a loop closed.
-pub fn tree_place(label: &[u8], looped: &[u8], elements: usize) -> usize
-    requires { ⌜ LoopsReach (now label) (now looped) elements ⌝ }
-    ensures { λ r. ⌜ r ≡ leastLooped (now (label .entry)) (now (looped .entry)) elements ⌝ }
-{
-    let mut place = elements;
-    let mut x: usize = 0;
-    while x < elements {
-        if looped[x] == 1 {
-            let k = label[x] as usize;
-            if k < place {
-                place = k;
-            }
-        }
-        x += 1;
-    }
-    place
-}
-
-// Rule 15: the lowest sound source that is not the last of its part.
-pub fn pair_place(label: &[u8], sound: &[u8], last: &[u8], elements: usize) -> usize
-    requires { ⌜ LastReach (now label) (now sound) (now last) elements ⌝ }
-    ensures { λ r. ⌜ r ≡ lowest elements (notLast (now (label .entry)) (now (sound .entry)) (now (last .entry))) ⌝ }
-{
-    let mut s: usize = 0;
-    while s < elements {
-        if sound[s] == 1 {
-            let k = label[s] as usize;
-            if last[k] as usize != s {
-                return s;
-            }
-        }
-        s += 1;
-    }
-    elements
-}
-
-// Rule 16: the lowest faulty element whose part has a sound source.
-pub fn fault_place(label: &[u8], faulty: &[u8], last: &[u8], elements: usize) -> usize
-    requires { ⌜ LastReach (now label) (now faulty) (now last) elements ⌝ }
-    ensures { λ r. ⌜ r ≡ lowest elements (withLast (now (label .entry)) (now (faulty .entry)) (now (last .entry))) ⌝ }
-{
-    let mut x: usize = 0;
-    while x < elements {
-        if faulty[x] == 1 {
-            let k = label[x] as usize;
-            if last[k] < 64 {
-                return x;
-            }
-        }
-        x += 1;
-    }
-    elements
-}
+ghost use Rattle.safety.specs.Checks.{Checked, refused};
 
 fn broken(rule: Rule, place: usize) -> Answer
     ensures { λ r. ⌜ r ≡ refused rule place ⌝ }

@@ -1,7 +1,7 @@
 -- The answer is the refusal of the rule at the place, as it is built.
 -- Assumes nothing.
 use mathlib.Core.Path.{refl}
-use Rattle.safety.specs.Places.{refused}
+use Rattle.safety.specs.Checks.{refused}
 use Rattle.safety.proofs.broken.Statement.{statement}
 use Rattle.safety.proofs.broken.Tie as tie
 

@@ -6,10 +6,10 @@ use Prim.Native.Nat.{_-_, _≤_}
 use native.Mathlib.Omega.{arith}
 use Rattle.feeding.specs.Below.{lowest, lowestFrom}
 use Rattle.feeding.proofs.Lows.{lowest-start, lowest-stop, lowest-step, lowest-end}
-use Rattle.safety.specs.Places.{withLast}
-use Rattle.safety.proofs.Tests.{with-last-on, with-last-off, with-last-none}
-use Rattle.safety.proofs.fault_place.Statement.{statement}
-use Rattle.safety.proofs.fault_place.Tie as tie
+use Rattle.places.specs.Places.{withLast}
+use Rattle.places.proofs.Tests.{with-last-on, with-last-off, with-last-none}
+use Rattle.places.proofs.fault_place.Statement.{statement}
+use Rattle.places.proofs.fault_place.Tie as tie
 
 abbrev Inv-loop : tie.InvT-loop
 Inv-loop label faulty last elements x₀ x =

@@ -2,10 +2,10 @@
 -- Assumes nothing.
 use mathlib.Core.Path.{_∙_}
 use borrow.Author.Needs.{needs}
 use Rattle.restoration.proofs.Reach.{marks-long, marks-reach, ends-reach}
-use Rattle.restoration.proofs.Sets.{operable-is}
-use Rattle.restoration.proofs.operable_switches.Statement.{statement}
-use Rattle.restoration.proofs.operable_switches.Tie as tie
+use Rattle.operable.proofs.Switches.{operable-is}
+use Rattle.operable.proofs.operable_switches.Statement.{statement}
+use Rattle.operable.proofs.operable_switches.Tie as tie
 
 restorable-elements-requires : tie.Need-restorable-elements-requires
 restorable-elements-requires c κs = search needs

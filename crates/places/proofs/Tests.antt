@@ -10,7 +10,7 @@ use borrow.Author.Tests.{eq-eqb, ne-eqb, lt-ltb, le-ltb}
 use Rattle.feeding.specs.Below.{leastTo}
 use Rattle.feeding.specs.Networks.{at, marked}
 use Rattle.feeding.proofs.Lows.{leastTo-step, leastTo-top}
-use Rattle.safety.specs.Places.{leastLooped, notLast, withLast}
+use Rattle.places.specs.Places.{leastLooped, notLast, withLast}
 
 module _ (label sound last : List ℕ) (x : ℕ) where
   pub not-last-on : at sound x ≡ 1 → (at last (at label x) ≡ x → ⊥) → notLast label sound last x ≡ true

@@ -8,7 +8,7 @@ use lib.Dec.{eqb, ltb}
 use lib.ListN.{length}
 use Rattle.feeding.specs.Below.{tabulate, lowestFrom, gate}
 use Rattle.feeding.specs.Networks.{at}
-use Rattle.loads.specs.declared.OwnEnds.{OwnEnds}
+use Rattle.ends.specs.declared.OwnEnds.{OwnEnds}
 
 -- both lists reach over the first n links, of which there are at most 96, and the ends are elements
 pub record TwoEnds (from to : List ℕ) (n : ℕ) : Type 0 where

@@ -4,9 +4,9 @@ use Prim.Native.Nat.{_-_, _*_, _≤_}
 use mathlib.Core.Path.{_≡_, subst}
 use native.Mathlib.Omega.{arith}
 use Rattle.feeding.specs.Networks.{at}
-use Rattle.loads.proofs.Turns.{Chained, chained-start, chained-turn, chained-all}
-use Rattle.loads.proofs.own_ends.Statement.{statement}
-use Rattle.loads.proofs.own_ends.Tie as tie
+use Rattle.ends.proofs.Turns.{Chained, chained-start, chained-turn, chained-all}
+use Rattle.ends.proofs.own_ends.Statement.{statement}
+use Rattle.ends.proofs.own_ends.Tie as tie
 
 abbrev Inv-loop : tie.InvT-loop
 Inv-loop from to links head₀ next₀ far₀ l₀ head next far l =

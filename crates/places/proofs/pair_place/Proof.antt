@@ -7,10 +7,10 @@ use native.Mathlib.Omega.{arith}
 use Rattle.feeding.specs.Below.{lowest, lowestFrom}
 use Rattle.feeding.specs.Networks.{at}
 use Rattle.feeding.proofs.Lows.{lowest-start, lowest-stop, lowest-step, lowest-end}
-use Rattle.safety.specs.Places.{notLast}
-use Rattle.safety.proofs.Tests.{not-last-on, not-last-off, not-last-same}
-use Rattle.safety.proofs.pair_place.Statement.{statement}
-use Rattle.safety.proofs.pair_place.Tie as tie
+use Rattle.places.specs.Places.{notLast}
+use Rattle.places.proofs.Tests.{not-last-on, not-last-off, not-last-same}
+use Rattle.places.proofs.pair_place.Statement.{statement}
+use Rattle.places.proofs.pair_place.Tie as tie
 
 abbrev Inv-loop : tie.InvT-loop
 Inv-loop label sound last elements s₀ s =

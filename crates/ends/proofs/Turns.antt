@@ -13,8 +13,8 @@ use Rattle.feeding.specs.Below.{gate}
 use Rattle.feeding.specs.Networks.{at}
 use Rattle.feeding.proofs.Below.{ltb-suc}
 use Rattle.feeding.proofs.Lows.{table-ext}
-use Rattle.loads.specs.Ends.{TwoEnds, endAt, farAt, ownEnd, ownEnds}
-use Rattle.loads.proofs.Chains.{own-yes, own-no, ownEnd-in, ownEnd-out, ownEnd-past, end-first, end-second}
+use Rattle.ends.specs.Ends.{TwoEnds, endAt, farAt, ownEnd, ownEnds}
+use Rattle.ends.proofs.Chains.{own-yes, own-no, ownEnd-in, ownEnd-out, ownEnd-past, end-first, end-second}
 
 -- what stands at j in the end, for the ends of the first n links
 unfoldable pub nextOf : (a b : ℕ → ℕ) (n : ℕ) → ℕ → ℕ

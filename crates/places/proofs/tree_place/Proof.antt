@@ -4,9 +4,9 @@ use mathlib.Core.Path.{_≡_, sym, ap, _∙_}
 use mathlib.Core.Logic.{⊎-elim}
 use Prim.Native.Nat.{_-_, _≤_}
 use native.Mathlib.Omega.{arith}
-use Rattle.safety.proofs.Tests.{leastBelow, least-none, least-all, least-lower, least-kept, least-off}
-use Rattle.safety.proofs.tree_place.Statement.{statement}
-use Rattle.safety.proofs.tree_place.Tie as tie
+use Rattle.places.proofs.Tests.{leastBelow, least-none, least-all, least-lower, least-kept, least-off}
+use Rattle.places.proofs.tree_place.Statement.{statement}
+use Rattle.places.proofs.tree_place.Tie as tie
 
 abbrev Inv-loop : tie.InvT-loop
 Inv-loop label looped elements place₀ x₀ place x = (x ≤ elements) × (place ≡ leastBelow label looped elements x)

@@ -9,7 +9,7 @@ use native.Mathlib.Omega.{arith}
 use Rattle.feeding.specs.Below.{lowestFrom}
 use Rattle.feeding.proofs.Below.{and-left, and-right, and-both}
 use Rattle.feeding.proofs.Lows.{lowest-here, lowest-next, lowest-none, lowestFrom-is}
-use Rattle.loads.specs.Ends.{endAt, ownEnd}
+use Rattle.ends.specs.Ends.{endAt, ownEnd}
 
 -- ---- the ends of a link
 

@@ -2,9 +2,9 @@
 -- Assumes nothing.
 use mathlib.Core.Path.{_∙_}
 use borrow.Author.Needs.{needs}
-use Rattle.restoration.proofs.Sets.{count-is}
-use Rattle.restoration.proofs.operable_count.Statement.{statement}
-use Rattle.restoration.proofs.operable_count.Tie as tie
+use Rattle.operable.proofs.Switches.{count-is}
+use Rattle.operable.proofs.operable_count.Statement.{statement}
+use Rattle.operable.proofs.operable_count.Tie as tie
 
 operable-switches-requires : tie.Need-operable-switches-requires
 operable-switches-requires c κs = search needs
