@@ -1,12 +1,18 @@
 -- Rules 1 to 18 on the planner's input: what is read, and what is handed out with the answer.
 -- Assumes nothing.
+use mathlib.Core.Path.{_≡_}
+use mathlib.Core.List.{List}
+use Prim.Native.Nat.{ℕ}
+use Rattle.network.specs.declared.refusal.Refusal.{Refusal}
+use Rattle.network_file.specs.Accepted.{WellFormed}
+use Rattle.network_file.specs.Inputs.{networkInput, networkRead}
 use Rattle.network.specs.declared.Network.{Network}
 use Rattle.network.specs.Networks.{emptyNetwork}
 use Rattle.network_file.specs.declared.Answer.{Answer}
 use Rattle.network_file.specs.declared.Answer.the-variants.{Accepted, Refused}
 use Rattle.network_file.specs.declared.NetworkRead.{NetworkRead}
 use Rattle.feeding.specs.Networks.{netOf}
-use Rattle.feeding.specs.Acceptance.{safety, answerTo}
+use Rattle.feeding.specs.Acceptance.{Answered, safety, answerTo}
 
 unfoldable pub startSafety : Network → Answer
 startSafety n = safety (netOf n .grid) (netOf n .startClosed)
@@ -22,3 +28,12 @@ acceptedFrom n (Refused r) = record { answer = Refused r; net = n }
 
 unfoldable pub acceptedRead : NetworkRead → NetworkRead
 acceptedRead r = acceptedFrom (r .net) (r .answer)
+
+-- What the paper says of the planner's input s, and `input-judged` of `read_accepted`'s answer: a file that breaks one of rules 1 to 13 is
+-- refused by it; one that passes them is read as a well-formed network, and gets what rules 14 to 18 say of it.
+pub data Judged (s : List ℕ) : NetworkRead → Type 0 where
+  unread : {r : Refusal} → networkRead (networkInput s) .answer ≡ Refused r → Judged s (record { answer = Refused r; net = emptyNetwork })
+  refused : {r : Refusal} (n : Network) → networkRead (networkInput s) ≡ record { answer = Accepted; net = n } → WellFormed n
+      → Answered (netOf n) (Refused r) → Judged s (record { answer = Refused r; net = emptyNetwork })
+  accepted : (n : Network) → networkRead (networkInput s) ≡ record { answer = Accepted; net = n } → WellFormed n
+      → Answered (netOf n) Accepted → Judged s (record { answer = Accepted; net = n })

@@ -9,7 +9,7 @@ use Rattle.feeding.specs.Below.{gate}
 use Rattle.feeding.specs.Networks.{Net, Formed}
 use Rattle.feeding.specs.Parts.{Config, Joined, here, over, Sound, Live, live?}
 use Rattle.feeding.specs.Plans.{Step, run, Good}
-use Rattle.feeding.specs.Restoration.{Spoiled, Restorable, itself, beside, restorable?, fedLoad, darkLoad, lostLoad, totalLoad}
+use Rattle.feeding.specs.Restoration.{FixedClosed, Spoiled, Restorable, itself, beside, restorable?, fedLoad, darkLoad, lostLoad, totalLoad}
 use Rattle.feeding.specs.Safety.{Safe}
 use Rattle.feeding.proofs.Joins.{joined-trans, joined-sym}
 use Rattle.feeding.proofs.Printed.{run-keeps}
@@ -17,17 +17,12 @@ use Rattle.feeding.proofs.Sums.{sumTo-add, sumTo-ext}
 use Rattle.feeding.proofs.Tests.{live?-out, restorable?-in}
 
 -- fixed links stay closed on the way
-pub fixed-kept : (net : Net) (op : ℕ → Bool) → ((l : ℕ) → op l ≡ true → net .fixed l ≡ false)
-    → (q : List Step) → Good net op (net .startClosed) q
-    → (l : ℕ) → net .fixed l ≡ true → net .startClosed l ≡ true → run (net .startClosed) q l ≡ true
-fixed-kept net op switches q g l f h = run-keeps net op (net .startClosed) q l (go (op l) refl) g ∙ h
-  where
-    go : (t : Bool) → op l ≡ t → t ≡ false
-    go true e = sym f ∙ switches l e
-    go false e = refl
+pub fixed-kept : (net : Net) (op : ℕ → Type 0) → ((l : ℕ) → op l → net .fixed l ≡ false) → FixedClosed net (net .startClosed)
+    → (q : List Step) → Good net op (net .startClosed) q → FixedClosed net (run (net .startClosed) q)
+fixed-kept net op switches closed q g l k f = run-keeps net op (net .startClosed) q l (λ o. false≢true (sym (switches l o) ∙ f)) g ∙ closed l k f
 
 module _ (net : Net) (formed : Formed (net .grid)) (c : Config)
-    (kept : (l : ℕ) → l < net .grid .K → net .fixed l ≡ true → c l ≡ true) (safe : Safe (net .grid) c) where
+    (kept : FixedClosed net c) (safe : Safe (net .grid) c) where
   fixed-joined : {d a : ℕ} → Joined (net .grid) (net .fixed) d a → Joined (net .grid) c d a
   fixed-joined here = here
   fixed-joined (over l k h t j) = over l k (kept l k h) t (fixed-joined j)

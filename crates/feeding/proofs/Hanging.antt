@@ -9,16 +9,16 @@ use borrow.Author.Tests.{eqb-true, eqb-false, lt-ltb}
 use native.Mathlib.Nat.{zero-add}
 use native.Mathlib.Omega.{arith}
 use Rattle.feeding.specs.Below.{sumTo, gate}
-use Rattle.feeding.specs.Loads.{leads, elementLoad, linkLoad, loadAt}
+use Rattle.feeding.specs.Loads.{leads, Fed, elementLoad, linkLoad, loadAt}
 use Rattle.feeding.specs.Networks.{Grid, Formed}
 use Rattle.feeding.specs.Parts.{Config, Joined, here, over, touches, far, joined?}
 use Rattle.feeding.specs.Restoration.{totalLoad}
-use Rattle.feeding.specs.Safety.{without}
+use Rattle.feeding.specs.Safety.{without, Safe}
 use Rattle.feeding.proofs.Below.{gate-ext, gate-mono, and-left, and-right, and-both, not-out, gate-le}
-use Rattle.feeding.proofs.Forest.{Bridges, without-on, without-ne, without-in}
+use Rattle.feeding.proofs.Forest.{Bridges, safe-bridges, without-on, without-ne, without-in}
 use Rattle.feeding.proofs.Joins.{spans-far, joined-sym, joined-trans}
 use Rattle.feeding.proofs.Labels.{joined?-sound, joined?-complete, far-lt}
-use Rattle.feeding.proofs.Load.{same-load, load-equation}
+use Rattle.feeding.proofs.Load.{same-load, load-equation, fed-in, fed-came}
 use Rattle.feeding.proofs.Opening.{joined-mono}
 use Rattle.feeding.proofs.Sums.{sumTo-add, sumTo-at, sumTo-ext, sumTo-mono, sumTo-zero, sumTo-only, sumTo-swap, gate-sum}
 use Rattle.feeding.proofs.Walk.{Came, by, came-on, leads-touches, leads-on, leads-in, spans-either}
@@ -229,3 +229,11 @@ module _ (g : Grid) (formed : Formed g) (c : Config) (bridges : Bridges g c) whe
   unfolding linkLoad
   link-at-most zero l e via k p = omega arith
   link-at-most (suc d) l e via k p = element-at-most d (far g l e) l (far-lt g formed l e k) (came-on g c e via l k p)
+
+-- the same of a safe configuration
+module _ (g : Grid) (formed : Formed g) (c : Config) (safe : Safe g c) {e via : ℕ} (fed : Fed g c e via) where
+  pub safe-hanging : loadAt g c e via ≡ sumTo (g .E) (λ x. gate (joined? g (without c via) x e) (g .load x))
+  safe-hanging = load-hanging g formed c (safe-bridges g formed c (safe .tree)) e via (fed-in g c formed fed) (fed-came g c fed)
+
+  pub safe-at-most : loadAt g c e via ≤ totalLoad g
+  safe-at-most = load-at-most g formed c (safe-bridges g formed c (safe .tree)) e via (fed-in g c formed fed) (fed-came g c fed)

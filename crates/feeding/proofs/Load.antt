@@ -7,7 +7,7 @@ use lib.Dec.{eqb}
 use borrow.Author.Tests.{eqb-true, eqb-false}
 use native.Mathlib.Omega.{arith}
 use Rattle.feeding.specs.Below.{sumTo, gate}
-use Rattle.feeding.specs.Loads.{leads, Fed, at-source, onward, elementLoad, linkLoad, loadAt}
+use Rattle.feeding.specs.Loads.{leads, Fed, at-source, onward, elementLoad, linkLoad, loadAt, FedOnce}
 use Rattle.feeding.specs.Networks.{Grid, Formed}
 use Rattle.feeding.specs.Parts.{Config, Joined, here, over, touches, far, Sound, Live}
 use Rattle.feeding.specs.Safety.{without, Safe}
@@ -149,14 +149,14 @@ module _ (g : Grid) (c : Config) where
         joined = step g c l (far g l e) e k (leads-on g c e v l h) (spans-sym (spans-far g l e (leads-touches g c e v l h))) (r .joined);
       }
 
--- a live element of a safe configuration is fed over exactly one link (or is a source: link K)
-pub record FedOnce (g : Grid) (c : Config) (e : ℕ) : Type 0 where
-  pub via : ℕ
-  pub fed : Fed g c e via
-  pub only : (w : ℕ) → Fed g c e w → w ≡ via
-
 pub fed-exactly-once : (g : Grid) → Formed g → (c : Config) → Safe g c → (e : ℕ) → e < g .E → Live g c e → FedOnce g c e
 fed-exactly-once g formed c safe e k r = go (live-fed g c (r .source) e (r .sound) (r .joined))
   where
     go : FedAt g c e → FedOnce g c e
     go f = record { via = f .via; fed = f .fed; only = λ w h. fed-once g formed c safe e w (f .via) h (f .fed) }
+
+-- the load equation of a safe configuration
+pub safe-load : (g : Grid) → Formed g → (c : Config) → Safe g c → {e via : ℕ} → Fed g c e via
+    → loadAt g c e via ≡ g .load e + sumTo (g .K) (λ l. gate (leads g c e via l) (loadAt g c (far g l e) l))
+safe-load g formed c safe {e} {via} f =
+    load-equation g formed c (safe-bridges g formed c (safe .tree)) e via (fed-in g c formed f) (fed-came g c f)

@@ -1,7 +1,7 @@
 -- A valid list of steps is matched by the printed form of what it leaves changed: each configuration on the way opens the first or the last one.
 -- Assumes nothing.
 use Prim.Native.Nat.{ℕ, zero, suc, _+_, _≤_, _<_}
-use mathlib.Core.Path.{_≡_, refl, sym, ap, ap₂, _∙_, fun-ext}
+use mathlib.Core.Path.{subst, _≡_, refl, sym, ap₂, _∙_, fun-ext}
 use mathlib.Core.Bool.{Bool, true, false, not, cond, _&&_, false≢true}
 use mathlib.Core.List.{List, [], _∷_, _++_}
 use lib.Dec.{eqb, ltb}
@@ -10,7 +10,7 @@ use native.Mathlib.Omega.{arith}
 use Rattle.feeding.specs.Below.{gate, sumTo}
 use Rattle.feeding.specs.Networks.{Net}
 use Rattle.feeding.specs.Parts.{Config}
-use Rattle.feeding.specs.Plans.{Step, put, run, Good, Valid, costOf, operations, sweep, printedForm, differ, flip, changed, setCost, Pricing}
+use Rattle.feeding.specs.Plans.{Step, put, run, Good, Valid, costOf, operations, sweep, printedForm, differ, flip, changed, setCost, Pricing, Matched}
 use Rattle.feeding.specs.Safety.{Safe}
 use Rattle.feeding.proofs.Below.{and-left, and-right, ltb-suc, gate-le}
 use Rattle.feeding.proofs.Sums.{sumTo-add, sumTo-none, sumTo-at, sumTo-mono, sumTo-ext}
@@ -23,7 +23,7 @@ unfolding run
 run-append c [] q = refl
 run-append c (s ∷ p) q = run-append (put c (s .link) (s .want)) p q
 
-pub good-append : (net : Net) (op : ℕ → Bool) (c : Config) (p q : List Step) → Good net op c p → Good net op (run c p) q → Good net op c (p ++ q)
+pub good-append : (net : Net) (op : ℕ → Type 0) (c : Config) (p q : List Step) → Good net op c p → Good net op (run c p) q → Good net op c (p ++ q)
 unfolding run Good
 good-append net op c [] q g h = h
 good-append net op c (s ∷ p) q g h = (g .0, good-append net op _ p q (g .1) h)
@@ -80,8 +80,8 @@ unfolding swept
 swept-at w pick n c = rw (le-ltb n n (omega arith))
 
 -- a sweep is good where each switch picked is operable and in the other state, and every configuration on the way is safe
-sweep-good : (net : Net) (op : ℕ → Bool) (w : Bool) (pick : ℕ → Bool) (c : Config)
-    → ((l : ℕ) → pick l ≡ true → op l ≡ true) → ((l : ℕ) → pick l ≡ true → c l ≡ not w)
+sweep-good : (net : Net) (op : ℕ → Type 0) (w : Bool) (pick : ℕ → Bool) (c : Config)
+    → ((l : ℕ) → pick l ≡ true → op l) → ((l : ℕ) → pick l ≡ true → c l ≡ not w)
     → ((k : ℕ) → Safe (net .grid) (swept w pick k c)) → (n : ℕ) → Good net op c (sweep w pick n)
 unfolding sweep Good
 sweep-good net op w pick c ops states safes zero = tt
@@ -123,18 +123,18 @@ operations-sweep w pick l (suc n) =
 
 -- ---- what any good list of steps does
 
-pub run-safe : (net : Net) (op : ℕ → Bool) (c : Config) (q : List Step) → Safe (net .grid) c → Good net op c q → Safe (net .grid) (run c q)
+pub run-safe : (net : Net) (op : ℕ → Type 0) (c : Config) (q : List Step) → Safe (net .grid) c → Good net op c q → Safe (net .grid) (run c q)
 unfolding run Good
 run-safe net op c [] s g = s
 run-safe net op c (x ∷ q) s g = run-safe net op _ q (g .0 .safe) (g .1)
 
 -- only operable switches change
-pub run-keeps : (net : Net) (op : ℕ → Bool) (c : Config) (q : List Step) (l : ℕ) → op l ≡ false → Good net op c q → run c q l ≡ c l
+pub run-keeps : (net : Net) (op : ℕ → Type 0) (c : Config) (q : List Step) (l : ℕ) → (op l → ⊥) → Good net op c q → run c q l ≡ c l
 unfolding run Good put
 run-keeps net op c [] l h g = refl
 run-keeps net op c (x ∷ q) l h g =
     run-keeps net op (put c (x .link) (x .want)) q l h (g .1)
-    ∙ rw (ne-eqb l (x .link) (λ e. false≢true (sym h ∙ ap op e ∙ g .0 .operable)))
+    ∙ rw (ne-eqb l (x .link) (λ e. h (subst op (sym e) (g .0 .operable))))
 
 differ-self : (b : Bool) → differ b b ≡ false
 differ-self true = refl
@@ -150,14 +150,19 @@ pub flip-changed : (net : Net) (q : List Step) → flip (net .startClosed) (chan
 unfolding flip changed
 flip-changed net q = fun-ext (λ l. differ-differ (net .startClosed l) (run (net .startClosed) q l))
 
-pub changed-operable : (net : Net) (op : ℕ → Bool) (q : List Step) → Good net op (net .startClosed) q
-    → (l : ℕ) → changed net q l ≡ true → op l ≡ true
-unfolding changed
-changed-operable net op q g l d = go (op l) refl
+differs-operable : (net : Net) (op : ℕ → Type 0) (c : Config) (q : List Step) (l : ℕ) → Good net op c q → differ (c l) (run c q l) ≡ true → op l
+unfolding run Good put
+differs-operable net op c [] l g d = absurd (false≢true (sym (differ-self (c l)) ∙ d))
+differs-operable net op c (x ∷ q) l g d = go (eqb l (x .link)) refl (differs-operable net op (put c (x .link) (x .want)) q l (g .1))
   where
-    go : (t : Bool) → op l ≡ t → t ≡ true
-    go true e = refl
-    go false e = sym (differ-self (net .startClosed l)) ∙ (rw (run-keeps net op (net .startClosed) q l e g) at d)
+    go : (t : Bool) → eqb l (x .link) ≡ t → (differ (put c (x .link) (x .want) l) (run (put c (x .link) (x .want)) q l) ≡ true → op l) → op l
+    go true e ih = subst op (sym (eqb-true l (x .link) e)) (g .0 .operable)
+    go false e ih = ih (rw e d)
+
+pub changed-operable : (net : Net) (op : ℕ → Type 0) (q : List Step) → Good net op (net .startClosed) q
+    → (l : ℕ) → changed net q l ≡ true → op l
+unfolding changed
+changed-operable net op q g l d = differs-operable net op (net .startClosed) q l g d
 
 -- the switches whose state two configurations differ in cost no more than the steps between the two
 differ-cost : (net : Net) (c : Config) (q : List Step) → sumTo (net .grid .K) (λ l. gate (differ (c l) (run c q l)) (net .cost l)) ≤ costOf net q
@@ -271,7 +276,7 @@ module _ (net : Net) (D : ℕ → Bool) (inside : (l : ℕ) → D l ≡ true →
         run-sweep true (closes net D) (net .grid .K) (opened net D),
       ) swept-all
 
-  pub printed-good : (op : ℕ → Bool) → ((l : ℕ) → D l ≡ true → op l ≡ true)
+  pub printed-good : (op : ℕ → Type 0) → ((l : ℕ) → D l ≡ true → op l)
       → Safe (net .grid) (net .startClosed) → Safe (net .grid) (flip (net .startClosed) D) → Good net op (net .startClosed) (printedForm net D)
   unfolding printedForm opens closes opened swept flip
   printed-good op ops start-safe end-safe =
@@ -300,13 +305,8 @@ plain net = record { list = costOf net; set = setCost net; at-most = changed-cos
 -- ---- the central theorem: for any goal, any set of operable switches and any pricing, a valid list of steps, however it goes, is matched by the
 -- printed form of the switches that it leaves changed, which is valid, operates each of them once and no other, and costs no more
 
-pub record Matched (net : Net) (op : ℕ → Bool) (goal : Config → Type 0) (price : Pricing net) (q : List Step) : Type 0 where
-  pub valid : Valid net op goal (printedForm net (changed net q))
-  pub once : (l : ℕ) → operations l (printedForm net (changed net q)) ≡ gate (changed net q l) 1
-  pub cheaper : price .list (printedForm net (changed net q)) ≤ price .list q
-
-pub matched : (net : Net) (op : ℕ → Bool) (goal : Config → Type 0) (price : Pricing net)
-    → ((l : ℕ) → op l ≡ true → l < net .grid .K) → Safe (net .grid) (net .startClosed)
+pub matched : (net : Net) (op : ℕ → Type 0) (goal : Config → Type 0) (price : Pricing net)
+    → ((l : ℕ) → op l → l < net .grid .K) → Safe (net .grid) (net .startClosed)
     → (q : List Step) → Valid net op goal q → Matched net op goal price q
 matched net op goal price inside safe q v = record {
   valid = record {

@@ -1,9 +1,8 @@
 -- From the struct to the theory: a well-formed network has a well-formed grid, so the balance and the central theorem hold of its plans.
 -- Assumes nothing.
-use Prim.Native.Nat.{ℕ, _+_, _≤_}
+use Prim.Native.Nat.{ℕ, _+_}
 use native.Mathlib.Omega.{arith}
 use mathlib.Core.Path.{_≡_}
-use mathlib.Core.Bool.{true}
 use mathlib.Core.List.{List}
 use lib.Dec.{eqb}
 use lib.ListN.{length}
@@ -11,25 +10,24 @@ use Rattle.network.specs.declared.Network.{Network}
 use Rattle.network_file.specs.Accepted.{WellFormed}
 use Rattle.network_file.specs.declared.Answer.{Answer}
 use Rattle.network_file.specs.declared.Answer.the-variants.{Accepted}
-use Rattle.feeding.specs.Acceptance.{Answered, not-a-tree, two-sources, fault-with-source, overloaded, too-many, accepted, answerTo}
-use Rattle.feeding.specs.Networks.{Net, Formed, at, gridOf, netOf}
-use Rattle.feeding.specs.Plans.{Step, run, Good, ValidPlan}
-use Rattle.feeding.specs.Restoration.{Restored, operable?, operables, fedLoad, darkLoad, lostLoad, totalLoad}
+use Rattle.feeding.specs.Acceptance.{Starts, Answered, not-a-tree, two-sources, fault-with-source, overloaded, too-many, accepted, answerTo}
+use Rattle.feeding.specs.Networks.{Formed, at, gridOf, netOf}
+use Rattle.feeding.specs.Plans.{Step, run, Good, ValidPlan, Matched}
+use Rattle.feeding.specs.Restoration.{FixedClosed, Operable, Restored, operables, fedLoad, darkLoad, lostLoad, totalLoad}
 use Rattle.feeding.specs.Safety.{Safe}
 use Rattle.feeding.proofs.Answers.{operables-counted, operables-unique, acceptance-answered, answered-acceptance}
 use Rattle.feeding.proofs.Balance.{fixed-kept, balance}
 use Rattle.feeding.proofs.Below.{or-left}
-use Rattle.feeding.proofs.Printed.{run-safe, plain, Matched, matched}
-use Rattle.feeding.proofs.Tests.{operable?-out}
+use Rattle.feeding.proofs.Printed.{run-safe, plain, matched}
 
 pub formed-net : (n : Network) → WellFormed n → Formed (netOf n .grid)
 unfolding netOf gridOf
 formed-net n w = record { endA-lt = w .from-in; endB-lt = w .to-in; differ = w .differ }
 
 -- "Fixed links are always closed."
-pub fixed-closed : (n : Network) (l : ℕ) → netOf n .fixed l ≡ true → netOf n .startClosed l ≡ true
+pub fixed-closed : (n : Network) → FixedClosed (netOf n) (netOf n .startClosed)
 unfolding netOf
-fixed-closed n l h = or-left (eqb (at (n .form) l) 0) _ h
+fixed-closed n l k h = or-left (eqb (at (n .form) l) 0) _ h
 
 -- rules 14 to 18 of a network that was read
 pub network-answered : (n : Network) → WellFormed n → Answered (netOf n) (answerTo n)
@@ -39,10 +37,6 @@ pub answered-network : (n : Network) → WellFormed n → (a : Answer) → Answe
 answered-network n w a h = answered-acceptance (netOf n) (formed-net n w) a h
 
 -- an accepted network starts safe, and at most 12 of its switches are operable
-pub record Starts (net : Net) : Type 0 where
-  pub safe : Safe (net .grid) (net .startClosed)
-  pub few : length (operables net) ≤ 12
-
 pub accepted-starts : (n : Network) → WellFormed n → answerTo n ≡ Accepted → Starts (netOf n)
 accepted-starts n w e = go (answerTo n) (network-answered n w) e
   where
@@ -57,17 +51,14 @@ accepted-starts n w e = go (answerTo n) (network-answered n w) e
 
 module _ (n : Network) (well : WellFormed n) (safe : Safe (netOf n .grid) (netOf n .startClosed)) (q : List Step) where
   -- after any good steps, fed, dark and lost loads add up to the total
-  pub plan-balance : Good (netOf n) (operable? (netOf n)) (netOf n .startClosed) q
+  pub plan-balance : Good (netOf n) (Operable (netOf n)) (netOf n .startClosed) q
       → fedLoad (netOf n) (run (netOf n .startClosed) q) + darkLoad (netOf n) (run (netOf n .startClosed) q) + lostLoad (netOf n)
       ≡ totalLoad (netOf n .grid)
   plan-balance good =
       balance (netOf n) (formed-net n well) (run (netOf n .startClosed) q)
-      (λ l k f. fixed-kept (netOf n) (operable? (netOf n)) (λ m o. operable?-out (netOf n) (formed-net n well) m o .switch) q good l f
-      (fixed-closed n l f))
-      (run-safe (netOf n) (operable? (netOf n)) (netOf n .startClosed) q safe good)
+      (fixed-kept (netOf n) (Operable (netOf n)) (λ l o. o .switch) (fixed-closed n) q good)
+      (run-safe (netOf n) (Operable (netOf n)) (netOf n .startClosed) q safe good)
 
   -- a valid plan is matched by the printed form of what it leaves changed, which costs no more
-  pub plan-matched : ValidPlan (netOf n) q → Matched (netOf n) (operable? (netOf n)) (Restored (netOf n)) (plain (netOf n)) q
-  plan-matched v =
-      matched (netOf n) (operable? (netOf n)) (Restored (netOf n)) (plain (netOf n))
-      (λ l o. operable?-out (netOf n) (formed-net n well) l o .below) safe q v
+  pub plan-matched : ValidPlan (netOf n) q → Matched (netOf n) (Operable (netOf n)) (Restored (netOf n)) (plain (netOf n)) q
+  plan-matched v = matched (netOf n) (Operable (netOf n)) (Restored (netOf n)) (plain (netOf n)) (λ l o. o .below) safe q v

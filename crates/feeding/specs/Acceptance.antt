@@ -54,6 +54,11 @@ pub data Answered (net : Net) : Answer → Type 0 where
       → Answered net (Refused (record { rule = TooManyOperable; place = n }))
   accepted : {n : ℕ} → Safe (net .grid) (net .startClosed) → Operables net n → n ≤ 12 → Answered net Accepted
 
+-- what acceptance promises: a safe start, and at most 12 operable switches
+pub record Starts (net : Net) : Type 0 where
+  pub safe : Safe (net .grid) (net .startClosed)
+  pub few : length (operables net) ≤ 12
+
 -- ---- what computes
 
 -- the rule is broken where the place is an element, else the rest decides

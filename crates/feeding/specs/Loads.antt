@@ -32,6 +32,12 @@ unfoldable mutual
 abbrev pub loadAt : Grid → Config → ℕ → ℕ → ℕ
 loadAt g c e via = elementLoad g c (2 * g .E) e via
 
+-- e is fed over exactly one link, or is a source and fed over none
+pub record FedOnce (g : Grid) (c : Config) (e : ℕ) : Type 0 where
+  pub via : ℕ
+  pub fed : Fed g c e via
+  pub only : (w : ℕ) → Fed g c e w → w ≡ via
+
 -- a live element that is loaded above its capacity
 pub record Overloaded (g : Grid) (c : Config) (e : ℕ) : Type 0 where
   pub via : ℕ

@@ -9,7 +9,7 @@ use Rattle.feeding.specs.Below.{sumTo, gate}
 use Rattle.feeding.specs.Networks.{Net}
 use Rattle.feeding.specs.Parts.{Config}
 use Rattle.feeding.specs.Safety.{Safe, safe?}
-use Rattle.feeding.specs.Restoration.{operable?, Restored, restored?}
+use Rattle.feeding.specs.Restoration.{Operable, operable?, Restored, restored?}
 
 pub record Step : Type 0 where
   pub link : ℕ
@@ -25,24 +25,23 @@ run c [] = c
 run c (s ∷ q) = run (put c (s .link) (s .want)) q
 
 -- "Each step operates an operable switch that is not yet in the state wanted, each configuration reached is safe"
-pub record GoodStep (net : Net) (op : ℕ → Bool) (c : Config) (s : Step) : Type 0 where
-  pub operable : op (s .link) ≡ true
+pub record GoodStep (net : Net) (op : ℕ → Type 0) (c : Config) (s : Step) : Type 0 where
+  pub operable : op (s .link)
   pub changes : c (s .link) ≡ not (s .want)
   pub safe : Safe (net .grid) (put c (s .link) (s .want))
 
-unfoldable pub Good : Net → (ℕ → Bool) → Config → List Step → Type 0
+unfoldable pub Good : Net → (ℕ → Type 0) → Config → List Step → Type 0
 Good net op c [] = Unit {0}
 Good net op c (s ∷ q) = GoodStep net op c s × Good net op (put c (s .link) (s .want)) q
 
 -- "A valid plan is a finite sequence of steps from the starting configuration", whose last configuration meets the goal
-pub record Valid (net : Net) (op : ℕ → Bool) (goal : Config → Type 0) (q : List Step) : Type 0 where
+pub record Valid (net : Net) (op : ℕ → Type 0) (goal : Config → Type 0) (q : List Step) : Type 0 where
   pub good : Good net op (net .startClosed) q
   pub meets : goal (run (net .startClosed) q)
 
--- the plans of document 01: its operable switches (`operable?-in` and `operable?-out` say that the test tells them), and "in the last one
--- every restorable element is live"
+-- the plans of document 01: its operable switches, and "in the last one every restorable element is live"
 abbrev pub ValidPlan : Net → List Step → Type 0
-ValidPlan net q = Valid net (operable? net) (Restored net) q
+ValidPlan net q = Valid net (Operable net) (Restored net) q
 
 -- ---- what computes
 
@@ -102,3 +101,9 @@ pub record Pricing (net : Net) : Type 0 where
   pub at-most : (q : List Step) → set (changed net q) ≤ list q
   -- the printed form costs what its set costs
   pub printed : (D : ℕ → Bool) → ((l : ℕ) → D l ≡ true → l < net .grid .K) → list (printedForm net D) ≡ set D
+
+-- what demand 3 rests on: the printed form of the switches that q leaves changed is valid, operates each of them once, and costs no more
+pub record Matched (net : Net) (op : ℕ → Type 0) (goal : Config → Type 0) (price : Pricing net) (q : List Step) : Type 0 where
+  pub valid : Valid net op goal (printedForm net (changed net q))
+  pub once : (l : ℕ) → operations l (printedForm net (changed net q)) ≡ gate (changed net q l) 1
+  pub cheaper : price .list (printedForm net (changed net q)) ≤ price .list q

@@ -11,6 +11,10 @@ use Rattle.feeding.specs.Below.{Member, Rising, anyTo, allTo, imp, gate,
 use Rattle.feeding.specs.Networks.{Grid, Net}
 use Rattle.feeding.specs.Parts.{Config, touches, far, Joined, Live, joined?, live?}
 
+-- "Fixed links are always closed."
+abbrev pub FixedClosed : Net → Config → Type 0
+FixedClosed net c = (l : ℕ) → l < net .grid .K → net .fixed l ≡ true → c l ≡ true
+
 -- "An element is spoiled if fixed links alone join it to a faulty one, or it is faulty."
 pub record Spoiled (net : Net) (e : ℕ) : Type 0 where
   pub fault : ℕ

@@ -4,7 +4,7 @@ ghost use Prim.Native.Nat.{_<_, _≤_};
 ghost use lib.ListN.{length};
 ghost use Rattle.parts.specs.Labelling.{Falls, AllBelow, EndsBelow, rootOf, rootsOf, partsOf, lastOfPart};
 
-// label[e]: the lowest element of the part of e; looped[a] is 1 where a closed link from a joined two elements of one part.
+// label[e]: the lowest element of the part of e; looped[x] is 1 where a closed link with first end x closes a loop.
 pub struct Parts {
     pub label: [u8; 64],
     pub looped: [u8; 64],
