@@ -1,6 +1,5 @@
 // Rules 14 to 18: a network that passed rules 1 to 13 is refused by the first that it breaks, or accepted.
 use ends::own_ends;
-use marks::marks_of;
 use network::Network;
 use network::refusal::Refusal;
 use network::refusal::Rule;
@@ -9,6 +8,7 @@ use network_file::NetworkRead;
 use network_file::read_network;
 use operable::operable_count;
 use safety::check;
+use sets::members_of;
 ghost use mathlib.Core.Path.{_≡_};
 ghost use Rattle.network_file.specs.Accepted.{WellFormed};
 ghost use Rattle.network_file.specs.Inputs.{networkInput, networkRead};
@@ -30,7 +30,7 @@ fn start_safety(net: Network) -> Answer
     let head = own.head;
     let next = own.next;
     let far = own.far;
-    let closed = marks_of(&form, 0, 2, net.links);
+    let closed = members_of(&form, 0, 2, net.links);
     check(
         &load,
         &capacity,

@@ -1,6 +1,7 @@
 pub mod Answers
 pub mod Balance
 pub mod Below
+pub mod Bits
 pub mod Decided
 pub mod Forest
 pub mod Hanging
@@ -8,7 +9,6 @@ pub mod Joins
 pub mod Labels
 pub mod Load
 pub mod Lows
-pub mod Marks
 pub mod Opening
 pub mod Overloads
 pub mod Printed

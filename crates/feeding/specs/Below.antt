@@ -60,8 +60,8 @@ tabulate zero f = []
 tabulate (suc n) f = tabulate n f ++ (f n ∷ [])
 
 -- w numbers, 1 at those below n that pass the test and 0 at the others
-unfoldable pub marks : ℕ → ℕ → (ℕ → Bool) → List ℕ
-marks w n f = tabulate w (λ x. gate (ltb x n && f x) 1)
+unfoldable pub bits : ℕ → ℕ → (ℕ → Bool) → List ℕ
+bits w n f = tabulate w (λ x. gate (ltb x n && f x) 1)
 
 -- l is an entry of the list
 unfoldable pub Member : ℕ → List ℕ → Type 0

@@ -37,8 +37,8 @@ abbrev pub at : List ℕ → ℕ → ℕ
 at xs i = getD xs i 0
 
 -- a set of numbers held as a list, 1 for a member
-abbrev pub marked : List ℕ → ℕ → Bool
-marked xs i = eqb (at xs i) 1
+abbrev pub isIn : List ℕ → ℕ → Bool
+isIn xs i = eqb (at xs i) 1
 
 -- "flags (1 = source, 2 = faulty, 3 = both, 0 = neither)"
 abbrev pub isSource : ℕ → Bool

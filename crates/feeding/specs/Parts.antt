@@ -6,7 +6,7 @@ use mathlib.Core.List.{List, map}
 use Prim.Native.Nat.{ℕ, zero, suc, _<_}
 use lib.Dec.{eqb, leb}
 use Rattle.feeding.specs.Below.{anyTo, tabulate}
-use Rattle.feeding.specs.Networks.{Grid, at, marked}
+use Rattle.feeding.specs.Networks.{Grid, at, isIn}
 
 -- "A configuration says of each switch whether it is closed"; `FixedClosed` says that fixed links are closed
 abbrev pub Config : Type 0
@@ -18,7 +18,7 @@ Opened c′ c = (l : ℕ) → c′ l ≡ true → c l ≡ true
 
 -- states held as numbers, 1 for closed
 abbrev pub closedIn : List ℕ → Config
-closedIn states l = marked states l
+closedIn states l = isIn states l
 
 -- e is an end of the link l, and the other end then
 unfoldable pub touches : Grid → ℕ → ℕ → Bool

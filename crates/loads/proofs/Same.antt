@@ -172,10 +172,10 @@ module _ (E K : ℕ) (load capacity flags from to : List ℕ) (formed : Formed (
     pub over-place-is : (c : Config) (sound : List ℕ) → ((s : ℕ) → s < E → eqb (at sound s) 1 ≡ sound? (gridOf E K load capacity flags from to) s)
         → overPlace (walkGrid E K (r .far) load capacity) c sound ≡ lowestOver (gridOf E K load capacity flags from to) c
     unfolding overPlace lowestOver gridOf walkGrid
-    over-place-is c sound marked = leastTo-ext E E
+    over-place-is c sound isIn = leastTo-ext E E
         (λ s. orElse E (eqb (at sound s) 1) (elementOver (walkGrid E K (r .far) load capacity) c (2 * E) s K))
         (λ s. orElse E (sound? (gridOf E K load capacity flags from to) s) (elementOver (gridOf E K load capacity flags from to) c (2 * E) s K))
-        (λ s k. rw (marked s k, element-over-is c (2 * E) s K k))
+        (λ s k. rw (isIn s k, element-over-is c (2 * E) s K k))
 
     total-fits : ((e : ℕ) → e < E → at load e < 2 ^ 32) → totalLoad (gridOf E K load capacity flags from to) < 2 ^ 64
     unfolding totalLoad gridOf

@@ -1,32 +1,32 @@
 // The switches that may be operated: those with an end that is dark and restorable at the start.
-use marks::at_either_end;
-use marks::count_of;
-use marks::except;
-use marks::marks_of;
 use network::Network;
 use restoration::live_elements;
 use restoration::restorable_elements;
+use sets::at_either_end;
+use sets::count_of;
+use sets::except;
+use sets::members_of;
 ghost use mathlib.Core.Path.{_≡_};
 ghost use lib.ListN.{length};
 ghost use Rattle.network_file.specs.Accepted.{WellFormed};
-ghost use Rattle.feeding.specs.Below.{marks};
+ghost use Rattle.feeding.specs.Below.{bits};
 ghost use Rattle.feeding.specs.Networks.{netOf};
 ghost use Rattle.feeding.specs.Restoration.{operable?, operables};
 
 pub fn operable_switches(net: Network) -> [u8; 96]
     requires { ⌜ WellFormed net ⌝ }
-    ensures { λ r. ⌜ r ≡ marks 96 (net .links) (operable? (netOf net)) ⌝ }
+    ensures { λ r. ⌜ r ≡ bits 96 (net .links) (operable? (netOf net)) ⌝ }
 {
     let from = net.from;
     let to = net.to;
     let flags = net.flags;
     let form = net.form;
     let restorable = restorable_elements(net);
-    let closed = marks_of(&form, 0, 2, net.links);
+    let closed = members_of(&form, 0, 2, net.links);
     let live = live_elements(&flags, &from, &to, &closed, net.elements, net.links);
     let waiting = except(&restorable, &live, net.elements);
     let ends = at_either_end(&from, &to, &waiting, net.links);
-    let unswitched = marks_of(&form, 0, 0, net.links);
+    let unswitched = members_of(&form, 0, 0, net.links);
     except(&ends, &unswitched, net.links)
 }
 

@@ -99,7 +99,7 @@ module _ (from to closed : List ℕ) (g : Grid) (formed : Formed g) (small : g .
       ≡ looped? g (closedIn closed) e
   unfolding looped? joined?
   looped-part e k =
-      last-live lab loo (g .E) (at lab e) small (label-below from to closed (g .K) e) ∙ same-test (anyTo (g .E) marked) (anyTo (g .K) linked) there back
+      last-live lab loo (g .E) (at lab e) small (label-below from to closed (g .K) e) ∙ same-test (anyTo (g .E) isIn) (anyTo (g .K) linked) there back
     where
       lab : List ℕ
       lab = partsOf from to closed (g .K) .label
@@ -107,15 +107,15 @@ module _ (from to closed : List ℕ) (g : Grid) (formed : Formed g) (small : g .
       loo : List ℕ
       loo = partsOf from to closed (g .K) .looped
 
-      marked : ℕ → Bool
-      marked x = eqb (at loo x) 1 && eqb (at lab x) (at lab e)
+      isIn : ℕ → Bool
+      isIn x = eqb (at loo x) 1 && eqb (at lab x) (at lab e)
 
       linked : ℕ → Bool
       linked l = loopAt g (closedIn closed) l && eqb (label g (closedIn closed) (g .endA l)) (label g (closedIn closed) e)
 
-      there : anyTo (g .E) marked ≡ true → anyTo (g .K) linked ≡ true
+      there : anyTo (g .E) isIn ≡ true → anyTo (g .K) linked ≡ true
       there h =
-          let r = anyTo-out (g .E) marked h in
+          let r = anyTo-out (g .E) isIn h in
           let x = r .0 in
           let on : eqb (at loo x) 1 ≡ true = and-left (eqb (at loo x) 1) _ (r .2) in
           let here : at lab x ≡ at lab e = eqb-true _ _ (and-right (eqb (at loo x) 1) _ (r .2)) in
@@ -127,7 +127,7 @@ module _ (from to closed : List ℕ) (g : Grid) (formed : Formed g) (small : g .
           anyTo-in (g .K) linked l (q .1)
           (and-both (loopAt g (closedIn closed) l) _ (and-left (loopAt g (closedIn closed) l) _ (q .2)) (eq-eqb _ _ alike))
 
-      back : anyTo (g .K) linked ≡ true → anyTo (g .E) marked ≡ true
+      back : anyTo (g .K) linked ≡ true → anyTo (g .E) isIn ≡ true
       back h =
           let r = anyTo-out (g .K) linked h in
           let l = r .0 in
@@ -138,7 +138,7 @@ module _ (from to closed : List ℕ) (g : Grid) (formed : Formed g) (small : g .
           let on : eqb (at loo x) 1 ≡ true =
           looped-is x (omega arith)
           ∙ anyTo-in (g .K) (λ l. loopAt g (closedIn closed) l && eqb (g .endA l) x) l (r .1) (and-both _ _ loop (eq-eqb x x refl)) in
-          anyTo-in (g .E) marked x low (and-both (eqb (at loo x) 1) _ on (eq-eqb _ _ (label-is x low ∙ alike ∙ sym (label-is e k))))
+          anyTo-in (g .E) isIn x low (and-both (eqb (at loo x) 1) _ on (eq-eqb _ _ (label-is x low ∙ alike ∙ sym (label-is e k))))
 
 module _ (E K : ℕ) (load capacity flags from to closed : List ℕ) (formed : Formed (gridOf E K load capacity flags from to)) (small : E ≤ 64) where
   pub grid-ends : K ≤ length from → K ≤ length to → K ≤ length closed → EndsBelow 64 from to closed K

@@ -1,4 +1,4 @@
--- What the functions of this crate leave: labels as `feeding` defines them, marks at loops, and the highest marked element of each part.
+-- What the functions of this crate leave: labels as `feeding` defines them, the set of loops, and the highest member of a set in each part.
 -- Assumes nothing.
 use mathlib.Core.Bool.{true, false, _&&_}
 use mathlib.Core.List.{List}
@@ -39,20 +39,20 @@ pub record EndsBelow (m : ℕ) (from to closed : List ℕ) (n : ℕ) : Type 0 wh
   pub to-in : (l : ℕ) → l < n → at to l < m
 
 -- 1 at the first end of each of the first n links that closes a loop
-unfoldable pub loopMarks : (m : ℕ) (a b : ℕ → ℕ) → Config → ℕ → List ℕ
-loopMarks m a b c zero = replicate m 0
-loopMarks m a b c (suc n) = elim (c n && eqb (at (labels m a b c n) (a n)) (at (labels m a b c n) (b n))) [
-  | true ↦ set (loopMarks m a b c n) (a n) 1
-  | false ↦ loopMarks m a b c n
+unfoldable pub loopSet : (m : ℕ) (a b : ℕ → ℕ) → Config → ℕ → List ℕ
+loopSet m a b c zero = replicate m 0
+loopSet m a b c (suc n) = elim (c n && eqb (at (labels m a b c n) (a n)) (at (labels m a b c n) (b n))) [
+  | true ↦ set (loopSet m a b c n) (a n) 1
+  | false ↦ loopSet m a b c n
 ]
 
 unfoldable pub partsOf : (from to closed : List ℕ) → ℕ → Parts
 partsOf from to closed n =
     record {
       label = labels 64 (at from) (at to) (closedIn closed) n;
-      looped = loopMarks 64 (at from) (at to) (closedIn closed) n;
+      looped = loopSet 64 (at from) (at to) (closedIn closed) n;
     }
 
--- for each label k the highest of the first n elements that is marked and has it, or 64
+-- for each label k the highest of the first n elements that is in the set and has it, or 64
 unfoldable pub lastOfPart : (label has : List ℕ) → ℕ → List ℕ
 lastOfPart label has n = tabulate 64 (λ k. highest n 64 (λ x. eqb (at has x) 1 && eqb (at label x) k))

@@ -8,7 +8,7 @@ use native.Mathlib.Nat.{min-eq-left, min-eq-right}
 use native.Mathlib.Omega.{arith}
 use borrow.Author.Tests.{eq-eqb, ne-eqb, lt-ltb, le-ltb}
 use Rattle.feeding.specs.Below.{leastTo}
-use Rattle.feeding.specs.Networks.{at, marked}
+use Rattle.feeding.specs.Networks.{at, isIn}
 use Rattle.feeding.proofs.Lows.{leastTo-step, leastTo-top}
 use Rattle.places.specs.Places.{leastLooped, notLast, withLast}
 
@@ -23,7 +23,7 @@ module _ (label sound last : List ℕ) (x : ℕ) where
 
   pub not-last-same : at last (at label x) ≡ x → notLast label sound last x ≡ false
   unfolding notLast
-  not-last-same q = rw (eq-eqb (at last (at label x)) x q) (and-false (marked sound x))
+  not-last-same q = rw (eq-eqb (at last (at label x)) x q) (and-false (isIn sound x))
 
 module _ (label faulty last : List ℕ) (x : ℕ) where
   pub with-last-on : at faulty x ≡ 1 → at last (at label x) < 64 → withLast label faulty last x ≡ true
@@ -36,12 +36,12 @@ module _ (label faulty last : List ℕ) (x : ℕ) where
 
   pub with-last-none : 64 ≤ at last (at label x) → withLast label faulty last x ≡ false
   unfolding withLast
-  with-last-none q = rw (le-ltb (at last (at label x)) 64 q) (and-false (marked faulty x))
+  with-last-none q = rw (le-ltb (at last (at label x)) 64 q) (and-false (isIn faulty x))
 
 module _ (label looped : List ℕ) (n : ℕ) where
   -- the least label of the first x elements that are marked
   pub leastBelow : ℕ → ℕ
-  leastBelow x = leastTo x n (λ y. elim (marked looped y) [ true ↦ at label y | false ↦ n ])
+  leastBelow x = leastTo x n (λ y. elim (isIn looped y) [ true ↦ at label y | false ↦ n ])
 
   pub least-none : leastBelow 0 ≡ n
   unfolding leastBelow leastTo

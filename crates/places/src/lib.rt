@@ -1,4 +1,4 @@
-// The places of rules 14 to 16, by the labels of the parts and by marks.
+// The places of rules 14 to 16, by the labels of the parts and by sets.
 ghost use mathlib.Core.Path.{_≡_};
 ghost use Rattle.feeding.specs.Below.{lowest};
 ghost use Rattle.places.specs.Places.{LoopsReach, LastReach, leastLooped, notLast, withLast};

@@ -8,19 +8,19 @@ use native.Mathlib.Omega.{arith}
 use lib.ListN.{length}
 use Rattle.network.specs.declared.Network.{Network}
 use Rattle.network_file.specs.Accepted.{WellFormed}
-use Rattle.feeding.specs.Below.{marks}
-use Rattle.feeding.proofs.Marks.{length-marks}
+use Rattle.feeding.specs.Below.{bits}
+use Rattle.feeding.proofs.Bits.{length-bits}
 use Rattle.parts.specs.declared.Parts.{Parts}
 use Rattle.parts.specs.Labelling.{EndsBelow, partsOf}
 use Rattle.parts.proofs.Grids.{label-below, label-long}
-use Rattle.marks.specs.Sets.{Reach, PartsReach, EndsReach}
+use Rattle.sets.specs.Sets.{Reach, PartsReach, EndsReach}
 use Rattle.restoration.specs.Living.{ConfigurationReach}
 
-pub marks-long : (xs : List ℕ) (m : ℕ) (f : ℕ → Bool) → xs ≡ marks 96 m f → length xs ≡ 96
-marks-long xs m f e = ap length e ∙ length-marks 96 m f
+pub bits-long : (xs : List ℕ) (m : ℕ) (f : ℕ → Bool) → xs ≡ bits 96 m f → length xs ≡ 96
+bits-long xs m f e = ap length e ∙ length-bits 96 m f
 
-pub marks-reach : (xs : List ℕ) (m k : ℕ) (f : ℕ → Bool) → k ≤ 96 → xs ≡ marks 96 m f → Reach xs k
-marks-reach xs m k f fit e = record { fit = fit; long = omega (arith, marks-long xs m f e) }
+pub bits-reach : (xs : List ℕ) (m k : ℕ) (f : ℕ → Bool) → k ≤ 96 → xs ≡ bits 96 m f → Reach xs k
+bits-reach xs m k f fit e = record { fit = fit; long = omega (arith, bits-long xs m f e) }
 
 -- parts of any closed links, and a set
 pub parts-reach : (E K : ℕ) (from to closed : List ℕ) (parts : Parts) (has : List ℕ) → E ≤ 64 → parts ≡ partsOf from to closed K → E ≤ length has

@@ -6,12 +6,12 @@ use mathlib.Core.List.{List}
 use Prim.Native.Nat.{ℕ, _<_, _≤_}
 use lib.Dec.{eqb}
 use Rattle.feeding.specs.Below.{anyTo}
-use Rattle.feeding.specs.Networks.{gridOf, at, marked}
+use Rattle.feeding.specs.Networks.{gridOf, at, isIn}
 use Rattle.feeding.specs.Parts.{Config, closedIn, label, joined?}
 use Rattle.feeding.proofs.Below.{anyTo-ext}
 use Rattle.feeding.proofs.Labels.{labels-wider, labels-ext}
 use Rattle.parts.specs.Labelling.{partsOf}
-use Rattle.marks.specs.Sets.{inMarkedPart}
+use Rattle.sets.specs.Sets.{inMarkedPart}
 
 -- the states that the list holds are those of the configuration c
 module _ (E K : ℕ) (load capacity flags from to closed : List ℕ) (c : Config) (fit : E ≤ 64)
@@ -22,7 +22,7 @@ module _ (E K : ℕ) (load capacity flags from to closed : List ℕ) (c : Config
       labels-wider E 64 fit (at from) (at to) (closedIn closed) K ends e k
       ∙ ap (λ (ls : List ℕ). at ls e) (labels-ext E (at from) (at from) (at to) (at to) (closedIn closed) c K (λ _ _. refl) (λ _ _. refl) same)
 
-  pub spread-is : (has : List ℕ) (h : ℕ → Bool) → ((y : ℕ) → y < E → marked has y ≡ h y) → (x : ℕ) → x < E
+  pub spread-is : (has : List ℕ) (h : ℕ → Bool) → ((y : ℕ) → y < E → isIn has y ≡ h y) → (x : ℕ) → x < E
       → inMarkedPart (partsOf from to closed K .label) has E x ≡ anyTo E (λ y. h y && joined? (gridOf E K load capacity flags from to) c y x)
   unfolding inMarkedPart joined?
   spread-is has h is x k = anyTo-ext E _ _ (λ y ky. ap₂ _&&_ (is y ky) (ap₂ eqb (label-is x k) (label-is y ky)))

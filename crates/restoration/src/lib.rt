@@ -1,35 +1,35 @@
 // What a network's faults spoil, what can be restored, and what is live: sets of elements, 1 for a member.
-use marks::at_either_end;
-use marks::except;
-use marks::marks_of;
-use marks::spread;
 use network::Network;
 use parts::parts_of;
+use sets::at_either_end;
+use sets::except;
+use sets::members_of;
+use sets::spread;
 ghost use mathlib.Core.Path.{_≡_};
 ghost use Rattle.network_file.specs.Accepted.{WellFormed};
-ghost use Rattle.feeding.specs.Below.{marks};
+ghost use Rattle.feeding.specs.Below.{bits};
 ghost use Rattle.feeding.specs.Networks.{netOf};
 ghost use Rattle.feeding.specs.Restoration.{spoiled?, restorable?};
 ghost use Rattle.restoration.specs.Living.{ConfigurationReach, liveIn};
 
 pub fn spoiled_elements(net: Network) -> [u8; 96]
     requires { ⌜ WellFormed net ⌝ }
-    ensures { λ r. ⌜ r ≡ marks 96 (net .elements) (spoiled? (netOf net)) ⌝ }
+    ensures { λ r. ⌜ r ≡ bits 96 (net .elements) (spoiled? (netOf net)) ⌝ }
 {
     let from = net.from;
     let to = net.to;
     let flags = net.flags;
     let form = net.form;
-    let fixed = marks_of(&form, 0, 0, net.links);
+    let fixed = members_of(&form, 0, 0, net.links);
     let parts = parts_of(&from, &to, &fixed, net.links);
     let label = parts.label;
-    let faulty = marks_of(&flags, 2, 3, net.elements);
+    let faulty = members_of(&flags, 2, 3, net.elements);
     spread(&label, &faulty, net.elements)
 }
 
 pub fn restorable_elements(net: Network) -> [u8; 96]
     requires { ⌜ WellFormed net ⌝ }
-    ensures { λ r. ⌜ r ≡ marks 96 (net .elements) (restorable? (netOf net)) ⌝ }
+    ensures { λ r. ⌜ r ≡ bits 96 (net .elements) (restorable? (netOf net)) ⌝ }
 {
     let from = net.from;
     let to = net.to;
@@ -40,7 +40,7 @@ pub fn restorable_elements(net: Network) -> [u8; 96]
     let clean = except(&all, &touched, net.links);
     let parts = parts_of(&from, &to, &clean, net.links);
     let label = parts.label;
-    let source = marks_of(&flags, 1, 3, net.elements);
+    let source = members_of(&flags, 1, 3, net.elements);
     let unspoiled = except(&source, &spoiled, net.elements);
     let reached = spread(&label, &unspoiled, net.elements);
     except(&reached, &spoiled, net.elements)
@@ -56,10 +56,10 @@ pub fn live_elements<'a>(
     links: usize,
 ) -> [u8; 96]
     requires { ⌜ ConfigurationReach (now flags) (now from) (now to) (now closed) elements links ⌝ }
-    ensures { λ r. ⌜ r ≡ marks 96 elements (liveIn elements links (now (flags .entry)) (now (from .entry)) (now (to .entry)) (now (closed .entry))) ⌝ }
+    ensures { λ r. ⌜ r ≡ bits 96 elements (liveIn elements links (now (flags .entry)) (now (from .entry)) (now (to .entry)) (now (closed .entry))) ⌝ }
 {
     let parts = parts_of(from, to, closed, links);
     let label = parts.label;
-    let sound = marks_of(flags, 1, 1, elements);
+    let sound = members_of(flags, 1, 1, elements);
     spread(&label, &sound, elements)
 }

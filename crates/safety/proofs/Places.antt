@@ -9,7 +9,7 @@ use native.Mathlib.Omega.{arith}
 use lib.Dec.{eqb, ltb}
 use borrow.Author.Tests.{eqb-true, eq-eqb, ne-eqb, ltb-true, ltb-false, lt-ltb}
 use Rattle.feeding.specs.Below.{anyTo, leastTo, lowest, Lowest}
-use Rattle.feeding.specs.Networks.{Grid, Formed, at, marked}
+use Rattle.feeding.specs.Networks.{Grid, Formed, at, isIn}
 use Rattle.feeding.specs.Parts.{Config, label, joined?, sound?, live?}
 use Rattle.feeding.specs.Safety.{loopAt, looped?, paired?, faultLive?, treePlace, pairPlace, faultPlace}
 use Rattle.feeding.proofs.Below.{and-left, and-right, and-both, not-out, anyTo-out, anyTo-in, anyTo-ext, eqb-comm}
@@ -57,9 +57,9 @@ module _ (g : Grid) (formed : Formed g) (c : Config) (lab : List ℕ) (label-is 
 
   -- ---- rule 14: the least label of a marked element, where an element is marked that has a link that closes a loop from it
 
-  module _ (loo : List ℕ) (loo-is : (x : ℕ) → x < g .E → marked loo x ≡ anyTo (g .K) (λ l. loopAt g c l && eqb (g .endA l) x)) where
+  module _ (loo : List ℕ) (loo-is : (x : ℕ) → x < g .E → isIn loo x ≡ anyTo (g .K) (λ l. loopAt g c l && eqb (g .endA l) x)) where
     -- the label of a marked element is in a part with a loop
-    looped-label : (x : ℕ) → x < g .E → marked loo x ≡ true → looped? g c (at lab x) ≡ true
+    looped-label : (x : ℕ) → x < g .E → isIn loo x ≡ true → looped? g c (at lab x) ≡ true
     unfolding looped? joined?
     looped-label x k m =
         let r = anyTo-out (g .K) (λ l. loopAt g c l && eqb (g .endA l) x) (sym (loo-is x k) ∙ m) in
@@ -70,7 +70,7 @@ module _ (g : Grid) (formed : Formed g) (c : Config) (lab : List ℕ) (label-is 
         anyTo-in (g .K) _ l (r .1) (and-both (loopAt g c l) _ (and-left (loopAt g c l) _ (r .2)) (eq-eqb _ _ alike))
 
     -- a part with a loop has a marked element with its label
-    looped-marked : (e : ℕ) → e < g .E → looped? g c e ≡ true → (x : ℕ) × (x < g .E) × (marked loo x ≡ true) × (at lab x ≡ at lab e)
+    looped-marked : (e : ℕ) → e < g .E → looped? g c e ≡ true → (x : ℕ) × (x < g .E) × (isIn loo x ≡ true) × (at lab x ≡ at lab e)
     unfolding looped? joined?
     looped-marked e k h =
         let r = anyTo-out (g .K) (λ l. loopAt g c l && eqb (label g c (g .endA l)) (label g c e)) h in
@@ -84,13 +84,13 @@ module _ (g : Grid) (formed : Formed g) (c : Config) (lab : List ℕ) (label-is 
         )
 
     term : ℕ → ℕ
-    term x = elim (marked loo x) [ true ↦ at lab x | false ↦ g .E ]
+    term x = elim (isIn loo x) [ true ↦ at lab x | false ↦ g .E ]
 
-    term-on : (x : ℕ) → marked loo x ≡ true → term x ≡ at lab x
+    term-on : (x : ℕ) → isIn loo x ≡ true → term x ≡ at lab x
     unfolding term
     term-on x m = rw (m, term)
 
-    term-off : (x : ℕ) → marked loo x ≡ false → term x ≡ g .E
+    term-off : (x : ℕ) → isIn loo x ≡ false → term x ≡ g .E
     unfolding term
     term-off x m = rw (m, term)
 
@@ -106,9 +106,9 @@ module _ (g : Grid) (formed : Formed g) (c : Config) (lab : List ℕ) (label-is 
             → (leastTo (g .E) (g .E) term ≡ g .E) ⊎ ((x : ℕ) × (x < g .E) × (leastTo (g .E) (g .E) term ≡ term x))
             → looped? g c (leastTo (g .E) (g .E) term) ≡ true
         found k (inl e) = absurd (omega arith)
-        found k (inr r) = go (marked loo (r .0)) refl
+        found k (inr r) = go (isIn loo (r .0)) refl
           where
-            go : (t : Bool) → marked loo (r .0) ≡ t → looped? g c (leastTo (g .E) (g .E) term) ≡ true
+            go : (t : Bool) → isIn loo (r .0) ≡ t → looped? g c (leastTo (g .E) (g .E) term) ≡ true
             go true t = ap (looped? g c) (r .2 ∙ term-on (r .0) t) ∙ looped-label (r .0) (r .1) t
             go false t = absurd (omega (arith, r .2, term-off (r .0) t))
 
@@ -120,7 +120,7 @@ module _ (g : Grid) (formed : Formed g) (c : Config) (lab : List ℕ) (label-is 
 
   -- ---- rules 15 and 16: the last sound source of each part
 
-  module _ (small : g .E ≤ 64) (sound : List ℕ) (sound-is : (s : ℕ) → s < g .E → marked sound s ≡ sound? g s) where
+  module _ (small : g .E ≤ 64) (sound : List ℕ) (sound-is : (s : ℕ) → s < g .E → isIn sound s ≡ sound? g s) where
     abbrev last : List ℕ
     last = lastOfPart lab sound (g .E)
 
@@ -136,18 +136,18 @@ module _ (g : Grid) (formed : Formed g) (c : Config) (lab : List ℕ) (label-is 
     unfolding notLast
     not-last-lower s t h k p q e =
         let ks : s < g .E = omega arith in
-        and-both (marked sound s) _ (sound-is s ks ∙ p)
+        and-both (isIn sound s) _ (sound-is s ks ∙ p)
         (last-other lab sound (g .E) s small (label-in s ks) ks (on s ks p)
-        ∙ anyTo-in (g .E) _ t k (and-both (ltb s t) _ (lt-ltb s t h) (and-both (marked sound t) _ (sound-is t k ∙ q)
+        ∙ anyTo-in (g .E) _ t k (and-both (ltb s t) _ (lt-ltb s t h) (and-both (isIn sound t) _ (sound-is t k ∙ q)
         (eq-eqb (at lab t) (at lab s) (label-is t k ∙ sym e ∙ sym (label-is s ks))))))
 
     -- one that is not the last is one of two
     not-last-two : (s : ℕ) → s < g .E → notLast lab sound last s ≡ true → Two g c s
     unfolding notLast
     not-last-two s k h =
-        let p : sound? g s ≡ true = sym (sound-is s k) ∙ and-left (marked sound s) _ h in
+        let p : sound? g s ≡ true = sym (sound-is s k) ∙ and-left (isIn sound s) _ h in
         let r = anyTo-out (g .E) (λ y. ltb s y && (eqb (at sound y) 1 && eqb (at lab y) (at lab s)))
-        (sym (last-other lab sound (g .E) s small (label-in s k) k (on s k p)) ∙ and-right (marked sound s) _ h) in
+        (sym (last-other lab sound (g .E) s small (label-in s k) k (on s k p)) ∙ and-right (isIn sound s) _ h) in
         let t = r .0 in
         let m = and-right (ltb s t) _ (r .2) in
         record {
@@ -184,7 +184,7 @@ module _ (g : Grid) (formed : Formed g) (c : Config) (lab : List ℕ) (label-is 
         none : (s : ℕ) → s < lowest (g .E) (notLast lab sound last) → paired? g c s ≡ true → ⊥
         none s k h = let p = paired-two g c s h in either s (p .other) k (p .below) (p .sound) (p .other-sound) (p .apart) (p .alike)
 
-    pub fault-place-is : (faulty : List ℕ) → ((e : ℕ) → e < g .E → marked faulty e ≡ g .faulty e)
+    pub fault-place-is : (faulty : List ℕ) → ((e : ℕ) → e < g .E → isIn faulty e ≡ g .faulty e)
         → lowest (g .E) (withLast lab faulty last) ≡ faultPlace g c
     unfolding faultPlace withLast faultLive? live? joined?
     fault-place-is faulty faulty-is = lowest-ext (g .E) _ _ (λ e k. ap₂ _&&_ (faulty-is e k)

@@ -13,15 +13,15 @@ use Rattle.network.specs.declared.refusal.Rule.the-variants.{NotATree, TwoSourc
 use Rattle.network_file.specs.declared.Answer.{Answer}
 use Rattle.network_file.specs.declared.Answer.the-variants.{Accepted}
 use Rattle.feeding.specs.Acceptance.{brokenAt, safety}
-use Rattle.feeding.specs.Below.{lowest, marks}
+use Rattle.feeding.specs.Below.{lowest, bits}
 use Rattle.feeding.specs.Loads.{lowestOver}
-use Rattle.feeding.specs.Networks.{Grid, gridOf, at, marked}
+use Rattle.feeding.specs.Networks.{Grid, gridOf, at, isIn}
 use Rattle.feeding.specs.Parts.{Config, closedIn, label, sound?}
 use Rattle.feeding.specs.Safety.{treePlace, pairPlace, faultPlace}
 use Rattle.feeding.proofs.Decided.{broken, unbroken, trees-kept}
 use Rattle.feeding.proofs.Forest.{safe-bridges}
 use Rattle.feeding.proofs.Tests.{sound-flag}
-use Rattle.feeding.proofs.Marks.{length-marks, marked-marks}
+use Rattle.feeding.proofs.Bits.{length-bits, isIn-bits}
 use Rattle.parts.specs.declared.Parts.{Parts}
 use Rattle.parts.specs.Labelling.{AllBelow, EndsBelow, partsOf, lastOfPart}
 use Rattle.parts.proofs.Grids.{label-long, looped-long, label-below, grid-ends, grid-label, grid-looped}
@@ -29,7 +29,7 @@ use Rattle.parts.proofs.Lasts.{length-lasts}
 use Rattle.ends.specs.Ends.{ownEnds}
 use Rattle.loads.specs.Walks.{walkGrid, Lent, Carries, overPlace}
 use Rattle.loads.proofs.Same.{lent, over-place-is, carries}
-use Rattle.marks.specs.Sets.{Reach, oneOf}
+use Rattle.sets.specs.Sets.{Reach, oneOf}
 use Rattle.places.specs.Places.{LoopsReach, LastReach, leastLooped, notLast, withLast}
 use Rattle.safety.specs.Checks.{Checked, refused}
 use Rattle.safety.proofs.Places.{tree-place-is, pair-place-is, fault-place-is}
@@ -60,13 +60,13 @@ module _ {load capacity flags from to head next far closed : List ℕ} {E K : �
   fit96 = omega (arith, ok .elements-fit)
 
   -- the marks of the sound sources, and of the faulty elements
-  sound-at : (sound : List ℕ) → sound ≡ marks 96 E (oneOf flags 1 1) → (s : ℕ) → s < E → marked sound s ≡ sound? grid s
+  sound-at : (sound : List ℕ) → sound ≡ bits 96 E (oneOf flags 1 1) → (s : ℕ) → s < E → isIn sound s ≡ sound? grid s
   unfolding oneOf sound? gridOf
-  sound-at sound e s k = ap (λ (xs : List ℕ). marked xs s) e ∙ marked-marks 96 E _ s fit96 k ∙ or-self (eqb (at flags s) 1) ∙ sound-flag (at flags s)
+  sound-at sound e s k = ap (λ (xs : List ℕ). isIn xs s) e ∙ isIn-bits 96 E _ s fit96 k ∙ or-self (eqb (at flags s) 1) ∙ sound-flag (at flags s)
 
-  faulty-at : (faulty : List ℕ) → faulty ≡ marks 96 E (oneOf flags 2 3) → (e : ℕ) → e < E → marked faulty e ≡ grid .faulty e
+  faulty-at : (faulty : List ℕ) → faulty ≡ bits 96 E (oneOf flags 2 3) → (e : ℕ) → e < E → isIn faulty e ≡ grid .faulty e
   unfolding oneOf gridOf
-  faulty-at faulty q e k = ap (λ (xs : List ℕ). marked xs e) q ∙ marked-marks 96 E _ e fit96 k
+  faulty-at faulty q e k = ap (λ (xs : List ℕ). isIn xs e) q ∙ isIn-bits 96 E _ e fit96 k
 
   pub lists-lent : Lent head next far closed load capacity E K
   lists-lent = rw (ok .head-is, ok .next-is, ok .far-is)
@@ -93,9 +93,9 @@ module _ {load capacity flags from to head next far closed : List ℕ} {E K : �
         ∙ grid-label E K load capacity flags from to closed (ok .formed) (ok .elements-fit) e k
 
     -- the lists that the searches go over: the marks f, and the last of each part
-    module _ {has : List ℕ} (f : ℕ → Bool) (has-is : has ≡ marks 96 E f) where
+    module _ {has : List ℕ} (f : ℕ → Bool) (has-is : has ≡ bits 96 E f) where
       has-fits : E ≤ length has
-      has-fits = omega (arith, fit96, ap length has-is ∙ length-marks 96 E f)
+      has-fits = omega (arith, fit96, ap length has-is ∙ length-bits 96 E f)
 
       pub last-asks : (E ≤ 64) × (E ≤ length (parts .label)) × (E ≤ length has)
       last-asks = (ok .elements-fit, label-fits, has-fits)
@@ -116,14 +116,14 @@ module _ {load capacity flags from to head next far closed : List ℕ} {E K : �
       tree-found : tree ≡ treePlace grid config
       unfolding gridOf
       tree-found = tree-is ∙ tree-place-is grid (ok .formed) config (parts .label) label-at (parts .looped)
-          (λ x k. ap (λ (p : Parts). marked (p .looped) x) parts-is
+          (λ x k. ap (λ (p : Parts). isIn (p .looped) x) parts-is
           ∙ grid-looped E K load capacity flags from to closed (ok .formed) (ok .elements-fit) x (omega (arith, ok .elements-fit)))
 
       pub not-a-tree : tree < E → refused NotATree tree ≡ safety grid config
       unfolding safety gridOf
       not-a-tree h = found grid NotATree tree (treePlace grid config) _ tree-found h
 
-      module _ (trees : E ≤ tree) {sound : List ℕ} (sound-is : sound ≡ marks 96 E (oneOf flags 1 1))
+      module _ (trees : E ≤ tree) {sound : List ℕ} (sound-is : sound ≡ bits 96 E (oneOf flags 1 1))
           {last : List ℕ} (last-is : last ≡ lastOfPart (parts .label) sound E)
           {pair : ℕ} (pair-is : pair ≡ lowest E (notLast (parts .label) sound last)) where
         pair-found : pair ≡ pairPlace grid config
@@ -139,7 +139,7 @@ module _ {load capacity flags from to head next far closed : List ℕ} {E K : �
             found grid TwoSources pair (pairPlace grid config) _ pair-found h
             ∙ sym (passed grid NotATree tree (treePlace grid config) _ tree-found trees)
 
-        module _ (lone : E ≤ pair) {faulty : List ℕ} (faulty-is : faulty ≡ marks 96 E (oneOf flags 2 3))
+        module _ (lone : E ≤ pair) {faulty : List ℕ} (faulty-is : faulty ≡ bits 96 E (oneOf flags 2 3))
             {fault : ℕ} (fault-is : fault ≡ lowest E (withLast (parts .label) faulty last)) where
           fault-found : fault ≡ faultPlace grid config
           unfolding gridOf

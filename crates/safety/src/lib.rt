@@ -1,6 +1,5 @@
 // Whether a configuration is safe, and the rule of 14 to 17 that it breaks first, with its place.
 use loads::over_place;
-use marks::marks_of;
 use network::refusal::Refusal;
 use network::refusal::Rule;
 use network_file::Answer;
@@ -9,6 +8,7 @@ use parts::parts_of;
 use places::fault_place;
 use places::pair_place;
 use places::tree_place;
+use sets::members_of;
 ghost use mathlib.Core.Path.{_≡_};
 ghost use Prim.Native.Nat.{_<_};
 ghost use Rattle.feeding.specs.Networks.{gridOf};
@@ -46,13 +46,13 @@ pub fn check<'a>(
     if tree < elements {
         return broken(Rule::NotATree, tree);
     }
-    let sound = marks_of(flags, 1, 1, elements);
+    let sound = members_of(flags, 1, 1, elements);
     let last = last_of_part(&label, &sound, elements);
     let pair = pair_place(&label, &sound, &last, elements);
     if pair < elements {
         return broken(Rule::TwoSources, pair);
     }
-    let faulty = marks_of(flags, 2, 3, elements);
+    let faulty = members_of(flags, 2, 3, elements);
     let fault = fault_place(&label, &faulty, &last, elements);
     if fault < elements {
         return broken(Rule::FaultWithSource, fault);

@@ -18,11 +18,11 @@ own-ends-requires c κs =
     let pre· = c .before .before .before .before .before .before .before .before .pre in
     two-ends (args· .net) pre·
 
-slice-aggregate-marks-of : tie.Need-slice-aggregate-marks-of
-slice-aggregate-marks-of c = search needs
+slice-aggregate-members-of : tie.Need-slice-aggregate-members-of
+slice-aggregate-members-of c = search needs
 
-marks-of-requires : tie.Need-marks-of-requires
-marks-of-requires c κs = search needs
+members-of-requires : tie.Need-members-of-requires
+members-of-requires c κs = search needs
 
 slice-aggregate-check : tie.Need-slice-aggregate-check
 slice-aggregate-check c = search needs
@@ -56,15 +56,15 @@ check-requires c κs =
     let args· = c .before .before .before .before .before .before .before .before .before .before .before .before .before .before .before .before .before .before .before .before .before .before .before .args in
     let pre· = c .before .before .before .before .before .before .before .before .before .before .before .before .before .before .before .before .before .before .before .before .before .before .before .pre in
     let own-ends· = c .before .before .before .before .before .before .before .before .before .before .before .before .before .before .own-ends in
-    let marks-of· = c .before .before .before .before .before .before .before .before .before .marks-of in
-    checked (args· .net) pre· (own-ends· .result) (marks-of· .result) (own-ends· .ensures) (marks-of· .ensures)
+    let members-of· = c .before .before .before .before .before .before .before .before .before .members-of in
+    checked (args· .net) pre· (own-ends· .result) (members-of· .result) (own-ends· .ensures) (members-of· .ensures)
 
 returns : tie.Need-returns
 returns c =
     let args· = c .before .before .before .before .before .before .before .before .before .before .before .before .before .before .before .before .before .before .before .before .before .before .before .before .args in
     let pre· = c .before .before .before .before .before .before .before .before .before .before .before .before .before .before .before .before .before .before .before .before .before .before .before .before .pre in
-    let marks-of· = c .before .before .before .before .before .before .before .before .before .before .marks-of in
-    c .check .ensures ∙ start-is (args· .net) pre· (marks-of· .result) (marks-of· .ensures)
+    let members-of· = c .before .before .before .before .before .before .before .before .before .before .members-of in
+    c .check .ensures ∙ start-is (args· .net) pre· (members-of· .result) (members-of· .ensures)
 
 pub start-safety-spec : {M : Type 1} → statement M
 start-safety-spec =
@@ -73,8 +73,8 @@ start-safety-spec =
     slice-aggregate-own-ends
     slice-aggregate-own-ends-2
     own-ends-requires
-    slice-aggregate-marks-of
-    marks-of-requires
+    slice-aggregate-members-of
+    members-of-requires
     slice-aggregate-check
     slice-aggregate-check-2
     slice-aggregate-check-3

@@ -2,7 +2,7 @@
 -- Assumes nothing.
 use mathlib.Core.Path.{_∙_}
 use borrow.Author.Needs.{needs}
-use Rattle.restoration.proofs.Reach.{marks-long, marks-reach, ends-reach}
+use Rattle.restoration.proofs.Reach.{bits-long, bits-reach, ends-reach}
 use Rattle.operable.proofs.Switches.{operable-is}
 use Rattle.operable.proofs.operable_switches.Statement.{statement}
 use Rattle.operable.proofs.operable_switches.Tie as tie
@@ -10,11 +10,11 @@ use Rattle.operable.proofs.operable_switches.Tie as tie
 restorable-elements-requires : tie.Need-restorable-elements-requires
 restorable-elements-requires c κs = search needs
 
-slice-aggregate-marks-of : tie.Need-slice-aggregate-marks-of
-slice-aggregate-marks-of c = search needs
+slice-aggregate-members-of : tie.Need-slice-aggregate-members-of
+slice-aggregate-members-of c = search needs
 
-marks-of-requires : tie.Need-marks-of-requires
-marks-of-requires c κs = search needs
+members-of-requires : tie.Need-members-of-requires
+members-of-requires c κs = search needs
 
 slice-aggregate-live-elements : tie.Need-slice-aggregate-live-elements
 slice-aggregate-live-elements c = search needs
@@ -54,13 +54,13 @@ at-either-end-requires c κs =
     let args· = c .before .before .before .before .before .before .before .before .before .before .before .before .before .before .before .before .before .before .args in
     let pre· = c .before .before .before .before .before .before .before .before .before .before .before .before .before .before .before .before .before .before .pre in
     let except· = c .before .before .before .except in
-    ends-reach (args· .net) pre· (except· .result) (marks-long _ _ _ (except· .ensures))
+    ends-reach (args· .net) pre· (except· .result) (bits-long _ _ _ (except· .ensures))
 
-slice-aggregate-marks-of-2 : tie.Need-slice-aggregate-marks-of-2
-slice-aggregate-marks-of-2 c = search needs
+slice-aggregate-members-of-2 : tie.Need-slice-aggregate-members-of-2
+slice-aggregate-members-of-2 c = search needs
 
-marks-of-requires-2 : tie.Need-marks-of-requires-2
-marks-of-requires-2 c κs = search needs
+members-of-requires-2 : tie.Need-members-of-requires-2
+members-of-requires-2 c κs = search needs
 
 slice-aggregate-except-3 : tie.Need-slice-aggregate-except-3
 slice-aggregate-except-3 c = search needs
@@ -72,29 +72,29 @@ except-requires-2 : tie.Need-except-requires-2
 except-requires-2 c κs =
     let pre· = c .before .before .before .before .before .before .before .before .before .before .before .before .before .before .before .before .before .before .before .before .before .before .before .pre in
     let at-either-end· = c .before .before .before .before .at-either-end in
-    (marks-reach _ _ _ _ (pre· .links-fit) (at-either-end· .ensures), marks-reach _ _ _ _ (pre· .links-fit) (c .before .before .marks-of2 .ensures))
+    (bits-reach _ _ _ _ (pre· .links-fit) (at-either-end· .ensures), bits-reach _ _ _ _ (pre· .links-fit) (c .before .before .members-of2 .ensures))
 
 returns : tie.Need-returns
 returns c =
     let args· = c .before .before .before .before .before .before .before .before .before .before .before .before .before .before .before .before .before .before .before .before .before .before .before .before .args in
     let pre· = c .before .before .before .before .before .before .before .before .before .before .before .before .before .before .before .before .before .before .before .before .before .before .before .before .pre in
     let restorable-elements· = c .before .before .before .before .before .before .before .before .before .before .before .before .before .before .before .before .before .before .before .restorable-elements in
-    let marks-of· = c .before .before .before .before .before .before .before .before .before .before .before .before .before .before .before .before .before .marks-of in
+    let members-of· = c .before .before .before .before .before .before .before .before .before .before .before .before .before .before .before .before .before .members-of in
     let live-elements· = c .before .before .before .before .before .before .before .before .before .before .before .before .live-elements in
     let except· = c .before .before .before .before .before .before .before .before .before .except in
     let at-either-end· = c .before .before .before .before .before .at-either-end in
-    let marks-of2· = c .before .before .before .marks-of2 in
+    let members-of2· = c .before .before .before .members-of2 in
     c .except2 .ensures
-    ∙ operable-is (args· .net) pre· (restorable-elements· .result) (marks-of· .result) (live-elements· .result) (except· .result) (at-either-end· .result) (marks-of2· .result)
-    (restorable-elements· .ensures) (marks-of· .ensures) (live-elements· .ensures) (except· .ensures) (at-either-end· .ensures) (marks-of2· .ensures)
+    ∙ operable-is (args· .net) pre· (restorable-elements· .result) (members-of· .result) (live-elements· .result) (except· .result) (at-either-end· .result) (members-of2· .result)
+    (restorable-elements· .ensures) (members-of· .ensures) (live-elements· .ensures) (except· .ensures) (at-either-end· .ensures) (members-of2· .ensures)
 
 pub operable-switches-spec : {M : Type 1} → statement M
 operable-switches-spec =
     tie.close
     (tie.spec
     restorable-elements-requires
-    slice-aggregate-marks-of
-    marks-of-requires
+    slice-aggregate-members-of
+    members-of-requires
     slice-aggregate-live-elements
     slice-aggregate-live-elements-2
     slice-aggregate-live-elements-3
@@ -107,8 +107,8 @@ operable-switches-spec =
     slice-aggregate-at-either-end-2
     slice-aggregate-at-either-end-3
     at-either-end-requires
-    slice-aggregate-marks-of-2
-    marks-of-requires-2
+    slice-aggregate-members-of-2
+    members-of-requires-2
     slice-aggregate-except-3
     slice-aggregate-except-4
     except-requires-2

@@ -3,7 +3,7 @@
 use mathlib.Core.Path.{_∙_}
 use native.Mathlib.Omega.{arith}
 use borrow.Author.Needs.{needs}
-use Rattle.restoration.proofs.Reach.{marks-long, configuration-ends, parts-reach}
+use Rattle.restoration.proofs.Reach.{bits-long, configuration-ends, parts-reach}
 use Rattle.restoration.proofs.Sets.{live-is}
 use Rattle.restoration.proofs.live_elements.Statement.{statement}
 use Rattle.restoration.proofs.live_elements.Tie as tie
@@ -14,8 +14,8 @@ parts-of-requires c κs =
     let pre· = c .before .before .before .before .pre in
     configuration-ends (args· .flags .now) (args· .from .now) (args· .to .now) (args· .closed .now) (args· .elements) (args· .links) pre·
 
-marks-of-requires : tie.Need-marks-of-requires
-marks-of-requires c κs = search needs
+members-of-requires : tie.Need-members-of-requires
+members-of-requires c κs = search needs
 
 slice-aggregate-spread : tie.Need-slice-aggregate-spread
 slice-aggregate-spread c = search needs
@@ -26,24 +26,24 @@ slice-aggregate-spread-2 c = search needs
 spread-requires : tie.Need-spread-requires
 spread-requires c κs =
     let parts-of· = c .before .before .before .before .parts-of in
-    let marks-of· = c .before .before .marks-of in
+    let members-of· = c .before .before .members-of in
     let pre· = c .before .before .before .before .before .before .before .before .before .pre in
-    parts-reach _ _ _ _ _ (parts-of· .result) (marks-of· .result) (pre· .elements-fit) (parts-of· .ensures) (omega (arith, pre· .elements-fit, (marks-long _ _ _ (marks-of· .ensures))))
+    parts-reach _ _ _ _ _ (parts-of· .result) (members-of· .result) (pre· .elements-fit) (parts-of· .ensures) (omega (arith, pre· .elements-fit, (bits-long _ _ _ (members-of· .ensures))))
 
 returns : tie.Need-returns
 returns c =
     let args· = c .before .before .before .before .before .before .before .before .before .before .args in
     let pre· = c .before .before .before .before .before .before .before .before .before .before .pre in
     let parts-of· = c .before .before .before .before .before .parts-of in
-    let marks-of· = c .before .before .before .marks-of in
-    c .spread .ensures ∙ live-is (args· .elements) (args· .links) (args· .flags .now) (args· .from .now) (args· .to .now) (args· .closed .now) pre· (parts-of· .result) (marks-of· .result) (parts-of· .ensures) (marks-of· .ensures)
+    let members-of· = c .before .before .before .members-of in
+    c .spread .ensures ∙ live-is (args· .elements) (args· .links) (args· .flags .now) (args· .from .now) (args· .to .now) (args· .closed .now) pre· (parts-of· .result) (members-of· .result) (parts-of· .ensures) (members-of· .ensures)
 
 pub live-elements-spec : {M : Type 1} → statement M
 live-elements-spec =
     tie.close
     (tie.spec
     parts-of-requires
-    marks-of-requires
+    members-of-requires
     slice-aggregate-spread
     slice-aggregate-spread-2
     spread-requires

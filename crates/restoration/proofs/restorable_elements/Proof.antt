@@ -3,7 +3,7 @@
 use mathlib.Core.Path.{refl, sym, _∙_}
 use native.Mathlib.Omega.{arith}
 use borrow.Author.Needs.{needs}
-use Rattle.restoration.proofs.Reach.{marks-long, marks-reach, network-ends, ends-reach, parts-reach}
+use Rattle.restoration.proofs.Reach.{bits-long, bits-reach, network-ends, ends-reach, parts-reach}
 use Rattle.restoration.proofs.Sets.{clean-is, unspoiled-is, restorable-is}
 use Rattle.restoration.proofs.restorable_elements.Statement.{statement}
 use Rattle.restoration.proofs.restorable_elements.Tie as tie
@@ -25,7 +25,7 @@ at-either-end-requires c κs =
     let args· = c .before .before .before .before .before .before .before .args in
     let pre· = c .before .before .before .before .before .before .before .pre in
     let spoiled-elements· = c .before .before .before .spoiled-elements in
-    ends-reach (args· .net) pre· (spoiled-elements· .result) (marks-long _ _ _ (spoiled-elements· .ensures))
+    ends-reach (args· .net) pre· (spoiled-elements· .result) (bits-long _ _ _ (spoiled-elements· .ensures))
 
 slice-aggregate-except : tie.Need-slice-aggregate-except
 slice-aggregate-except c = search needs
@@ -50,13 +50,13 @@ parts-of-requires c κs =
     let args· = c .before .before .before .before .before .before .before .before .before .before .before .before .before .before .args in
     let pre· = c .before .before .before .before .before .before .before .before .before .before .before .before .before .before .pre in
     let except· = c .before .before .before .except in
-    network-ends (args· .net) pre· (except· .result) (marks-long _ _ _ (except· .ensures))
+    network-ends (args· .net) pre· (except· .result) (bits-long _ _ _ (except· .ensures))
 
-slice-aggregate-marks-of : tie.Need-slice-aggregate-marks-of
-slice-aggregate-marks-of c = search needs
+slice-aggregate-members-of : tie.Need-slice-aggregate-members-of
+slice-aggregate-members-of c = search needs
 
-marks-of-requires : tie.Need-marks-of-requires
-marks-of-requires c κs = search needs
+members-of-requires : tie.Need-members-of-requires
+members-of-requires c κs = search needs
 
 slice-aggregate-except-3 : tie.Need-slice-aggregate-except-3
 slice-aggregate-except-3 c = search needs
@@ -78,7 +78,7 @@ spread-requires c κs =
     let parts-of· = c .before .before .before .before .before .before .before .before .parts-of in
     let except2· = c .before .before .except2 in
     let pre· = c .before .before .before .before .before .before .before .before .before .before .before .before .before .before .before .before .before .before .before .before .before .before .before .pre in
-    parts-reach _ _ _ _ _ (parts-of· .result) (except2· .result) (pre· .elements-fit) (parts-of· .ensures) (omega (arith, pre· .elements-fit, (marks-long _ _ _ (except2· .ensures))))
+    parts-reach _ _ _ _ _ (parts-of· .result) (except2· .result) (pre· .elements-fit) (parts-of· .ensures) (omega (arith, pre· .elements-fit, (bits-long _ _ _ (except2· .ensures))))
 
 slice-aggregate-except-5 : tie.Need-slice-aggregate-except-5
 slice-aggregate-except-5 c = search needs
@@ -86,13 +86,13 @@ slice-aggregate-except-5 c = search needs
 slice-aggregate-except-6 : tie.Need-slice-aggregate-except-6
 slice-aggregate-except-6 c =
     let spoiled-elements· = c .before .before .before .before .before .before .before .before .before .before .before .before .before .before .before .before .before .before .before .before .before .before .spoiled-elements in
-    sym (marks-long _ _ _ (spoiled-elements· .ensures))
+    sym (bits-long _ _ _ (spoiled-elements· .ensures))
 
 except-requires-3 : tie.Need-except-requires-3
 except-requires-3 c κs =
     let pre· = c .before .before .before .before .before .before .before .before .before .before .before .before .before .before .before .before .before .before .before .before .before .before .before .before .before .before .pre in
     let spoiled-elements· = c .before .before .before .before .before .before .before .before .before .before .before .before .before .before .before .before .before .before .before .before .before .before .spoiled-elements in
-    (marks-reach _ _ _ _ (omega (arith, pre· .elements-fit)) (c .before .before .spread .ensures), marks-reach _ _ _ _ (omega (arith, pre· .elements-fit)) (spoiled-elements· .ensures))
+    (bits-reach _ _ _ _ (omega (arith, pre· .elements-fit)) (c .before .before .spread .ensures), bits-reach _ _ _ _ (omega (arith, pre· .elements-fit)) (spoiled-elements· .ensures))
 
 returns : tie.Need-returns
 returns c =
@@ -104,11 +104,11 @@ returns c =
     let except2· = c .before .before .before .before .before .before .except2 in
     let spread· = c .before .before .before .spread in
     let at-either-end· = c .before .before .before .before .before .before .before .before .before .before .before .before .before .before .before .before .before .before .before .at-either-end in
-    let marks-of· = c .before .before .before .before .before .before .before .before .before .marks-of in
+    let members-of· = c .before .before .before .before .before .before .before .before .before .members-of in
     c .except3 .ensures
     ∙ restorable-is (args· .net) pre· (spoiled-elements· .result) (spoiled-elements· .ensures) (except· .result) (parts-of· .result) (except2· .result) (spread· .result)
     (clean-is (args· .net) pre· (spoiled-elements· .result) (spoiled-elements· .ensures) _ _ (except· .result) (at-either-end· .ensures) refl (except· .ensures))
-    (unspoiled-is (args· .net) pre· (spoiled-elements· .result) (spoiled-elements· .ensures) _ (except2· .result) (marks-of· .ensures) (except2· .ensures))
+    (unspoiled-is (args· .net) pre· (spoiled-elements· .result) (spoiled-elements· .ensures) _ (except2· .result) (members-of· .ensures) (except2· .ensures))
     (parts-of· .ensures)
     (spread· .ensures)
 
@@ -128,8 +128,8 @@ restorable-elements-spec =
     slice-aggregate-parts-of-2
     slice-aggregate-parts-of-3
     parts-of-requires
-    slice-aggregate-marks-of
-    marks-of-requires
+    slice-aggregate-members-of
+    members-of-requires
     slice-aggregate-except-3
     slice-aggregate-except-4
     except-requires-2

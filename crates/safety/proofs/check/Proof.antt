@@ -37,8 +37,8 @@ returns c =
     c .broken .ensures
     ∙ not-a-tree pre (parts-at .parts-of .ensures) (tree-at .tree-place .ensures) (omega arith)
 
-marks-of-requires : tie.Need-marks-of-requires
-marks-of-requires c κs =
+members-of-requires : tie.Need-members-of-requires
+members-of-requires c κs =
     let parts-at = c .before .before .before .before .before .before in
     let pre = parts-at .before .before .before .before .before .before .before .before .before .before .pre in
     flags-reach pre
@@ -54,7 +54,7 @@ last-of-part-requires c κs =
     let sound-at = c .before .before in
     let parts-at = sound-at .before .before .before .before .before .before .before in
     let pre = parts-at .before .before .before .before .before .before .before .before .before .before .pre in
-    (last-asks pre (parts-at .parts-of .ensures) _ (sound-at .marks-of .ensures), labels-in pre (parts-at .parts-of .ensures))
+    (last-asks pre (parts-at .parts-of .ensures) _ (sound-at .members-of .ensures), labels-in pre (parts-at .parts-of .ensures))
 
 slice-aggregate-pair-place : tie.Need-slice-aggregate-pair-place
 slice-aggregate-pair-place c = search needs
@@ -71,7 +71,7 @@ pair-place-requires c κs =
     let sound-at = last-at .before .before .before in
     let parts-at = sound-at .before .before .before .before .before .before .before in
     let pre = parts-at .before .before .before .before .before .before .before .before .before .before .pre in
-    last-reach pre (parts-at .parts-of .ensures) _ (sound-at .marks-of .ensures) _ (last-at .last-of-part .ensures)
+    last-reach pre (parts-at .parts-of .ensures) _ (sound-at .members-of .ensures) _ (last-at .last-of-part .ensures)
 
 broken-requires-2 : tie.Need-broken-requires-2
 broken-requires-2 c κs = search needs
@@ -88,10 +88,10 @@ returns-2 c =
     let tree-test = sound-at .before .if1 in
     c .broken2 .ensures
     ∙ two-sources pre (parts-at .parts-of .ensures) (tree-at .tree-place .ensures) (omega arith)
-    (sound-at .marks-of .ensures) (last-at .last-of-part .ensures) (pair-at .pair-place .ensures) (omega arith)
+    (sound-at .members-of .ensures) (last-at .last-of-part .ensures) (pair-at .pair-place .ensures) (omega arith)
 
-marks-of-requires-2 : tie.Need-marks-of-requires-2
-marks-of-requires-2 c κs =
+members-of-requires-2 : tie.Need-members-of-requires-2
+members-of-requires-2 c κs =
     let parts-at = c .before .before .before .before .before .before .before .before .before .before .before .before .before .before .before in
     let pre = parts-at .before .before .before .before .before .before .before .before .before .before .pre in
     flags-reach pre
@@ -114,7 +114,7 @@ fault-place-requires c κs =
     let last-at = faulty-at .before .before .before .before .before .before in
     let parts-at = last-at .before .before .before .before .before .before .before .before .before .before in
     let pre = parts-at .before .before .before .before .before .before .before .before .before .before .pre in
-    last-reach pre (parts-at .parts-of .ensures) _ (faulty-at .marks-of2 .ensures) _ (last-at .last-of-part .ensures)
+    last-reach pre (parts-at .parts-of .ensures) _ (faulty-at .members-of2 .ensures) _ (last-at .last-of-part .ensures)
 
 broken-requires-3 : tie.Need-broken-requires-3
 broken-requires-3 c κs = search needs
@@ -134,8 +134,8 @@ returns-3 c =
     let tree-test = sound-at .before .if1 in
     c .broken3 .ensures
     ∙ fault-with-source pre (parts-at .parts-of .ensures) (tree-at .tree-place .ensures) (omega arith)
-    (sound-at .marks-of .ensures) (last-at .last-of-part .ensures) (pair-at .pair-place .ensures) (omega arith)
-    (faulty-at .marks-of2 .ensures) (fault-at .fault-place .ensures) (omega arith)
+    (sound-at .members-of .ensures) (last-at .last-of-part .ensures) (pair-at .pair-place .ensures) (omega arith)
+    (faulty-at .members-of2 .ensures) (fault-at .fault-place .ensures) (omega arith)
 
 slice-aggregate-over-place : tie.Need-slice-aggregate-over-place
 slice-aggregate-over-place c = search needs
@@ -154,10 +154,10 @@ over-place-requires c κs =
     let tree-test = sound-at .before .if1 in (
       lists-lent pre,
       (
-        over-asks pre (parts-at .parts-of .ensures) _ (sound-at .marks-of .ensures),
+        over-asks pre (parts-at .parts-of .ensures) _ (sound-at .members-of .ensures),
         loads-carried pre (parts-at .parts-of .ensures) (tree-at .tree-place .ensures) (omega arith)
-            (sound-at .marks-of .ensures) (last-at .last-of-part .ensures) (pair-at .pair-place .ensures) (omega arith)
-            (faulty-at .marks-of2 .ensures) (fault-at .fault-place .ensures),
+            (sound-at .members-of .ensures) (last-at .last-of-part .ensures) (pair-at .pair-place .ensures) (omega arith)
+            (faulty-at .members-of2 .ensures) (fault-at .fault-place .ensures),
       ),
     )
 
@@ -181,8 +181,8 @@ returns-4 c =
     let tree-test = sound-at .before .if1 in
     c .broken4 .ensures
     ∙ overloaded pre (parts-at .parts-of .ensures) (tree-at .tree-place .ensures) (omega arith)
-    (sound-at .marks-of .ensures) (last-at .last-of-part .ensures) (pair-at .pair-place .ensures) (omega arith)
-    (faulty-at .marks-of2 .ensures) (fault-at .fault-place .ensures) (omega arith)
+    (sound-at .members-of .ensures) (last-at .last-of-part .ensures) (pair-at .pair-place .ensures) (omega arith)
+    (faulty-at .members-of2 .ensures) (fault-at .fault-place .ensures) (omega arith)
     (over-at .over-place .ensures) (omega arith)
 
 returns-5 : tie.Need-returns-5
@@ -201,8 +201,8 @@ returns-5 c =
     let pair-test = faulty-at .before .if2 in
     let tree-test = sound-at .before .if1 in
     accepted pre (parts-at .parts-of .ensures) (tree-at .tree-place .ensures) (omega arith)
-    (sound-at .marks-of .ensures) (last-at .last-of-part .ensures) (pair-at .pair-place .ensures) (omega arith)
-    (faulty-at .marks-of2 .ensures) (fault-at .fault-place .ensures) (omega arith)
+    (sound-at .members-of .ensures) (last-at .last-of-part .ensures) (pair-at .pair-place .ensures) (omega arith)
+    (faulty-at .members-of2 .ensures) (fault-at .fault-place .ensures) (omega arith)
     (over-at .over-place .ensures) (omega arith)
 
 pub check-spec : {M : Type 1} → statement M
@@ -215,7 +215,7 @@ check-spec =
     tree-place-requires
     broken-requires
     returns
-    marks-of-requires
+    members-of-requires
     slice-aggregate-last-of-part
     slice-aggregate-last-of-part-2
     last-of-part-requires
@@ -225,7 +225,7 @@ check-spec =
     pair-place-requires
     broken-requires-2
     returns-2
-    marks-of-requires-2
+    members-of-requires-2
     slice-aggregate-fault-place
     slice-aggregate-fault-place-2
     slice-aggregate-fault-place-3

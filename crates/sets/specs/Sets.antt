@@ -6,7 +6,7 @@ use Prim.Native.Nat.{ℕ, _<_, _≤_}
 use lib.Dec.{eqb}
 use lib.ListN.{length}
 use Rattle.feeding.specs.Below.{anyTo, those}
-use Rattle.feeding.specs.Networks.{at, marked}
+use Rattle.feeding.specs.Networks.{at, isIn}
 
 -- the list reaches over the first n of at most 96 numbers
 pub record Reach (xs : List ℕ) (n : ℕ) : Type 0 where
@@ -30,14 +30,14 @@ unfoldable pub oneOf : (values : List ℕ) (one other x : ℕ) → Bool
 oneOf values one other x = eqb (at values x) one || eqb (at values x) other
 
 unfoldable pub butNot : (kept left : List ℕ) → ℕ → Bool
-butNot kept left x = marked kept x && not (marked left x)
+butNot kept left x = isIn kept x && not (isIn left x)
 
 unfoldable pub inMarkedPart : (label has : List ℕ) (n x : ℕ) → Bool
-inMarkedPart label has n x = anyTo n (λ y. marked has y && eqb (at label x) (at label y))
+inMarkedPart label has n x = anyTo n (λ y. isIn has y && eqb (at label x) (at label y))
 
 unfoldable pub atEitherEnd : (from to has : List ℕ) → ℕ → Bool
-atEitherEnd from to has l = marked has (at from l) || marked has (at to l)
+atEitherEnd from to has l = isIn has (at from l) || isIn has (at to l)
 
 -- the members below n
 unfoldable pub members : List ℕ → ℕ → List ℕ
-members has n = those n (marked has)
+members has n = those n (isIn has)

@@ -4,21 +4,21 @@ use mathlib.Core.Path.{_≡_, refl}
 use mathlib.Core.Logic.{⊎-elim}
 use Prim.Native.Nat.{_≤_, _-_}
 use native.Mathlib.Omega.{arith}
-use Rattle.feeding.specs.Below.{marks}
-use Rattle.feeding.proofs.Marks.{marks-none, marks-on, marks-off}
-use Rattle.marks.specs.Sets.{atEitherEnd}
-use Rattle.marks.proofs.Turns.{end-first, end-second, end-neither}
-use Rattle.marks.proofs.at_either_end.Statement.{statement}
-use Rattle.marks.proofs.at_either_end.Tie as tie
+use Rattle.feeding.specs.Below.{bits}
+use Rattle.feeding.proofs.Bits.{bits-none, bits-on, members-off}
+use Rattle.sets.specs.Sets.{atEitherEnd}
+use Rattle.sets.proofs.Turns.{end-first, end-second, end-neither}
+use Rattle.sets.proofs.at_either_end.Statement.{statement}
+use Rattle.sets.proofs.at_either_end.Tie as tie
 
 abbrev Inv-loop : tie.InvT-loop
-Inv-loop from to has links out₀ l₀ out l = (l ≤ links) × (out ≡ marks 96 l (atEitherEnd from to has))
+Inv-loop from to has links out₀ l₀ out l = (l ≤ links) × (out ≡ bits 96 l (atEitherEnd from to has))
 
 abbrev μ-loop : tie.MeasureT-loop
 μ-loop from to has links out₀ l₀ out l = links - l
 
 loop-holds : tie.Need-loop-holds Inv-loop μ-loop
-loop-holds c = (omega arith, marks-none 96 (atEitherEnd (c .args .from .now) (c .args .to .now) (c .args .has .now)))
+loop-holds c = (omega arith, bits-none 96 (atEitherEnd (c .args .from .now) (c .args .to .now) (c .args .has .now)))
 
 mul-a : tie.Need-mul-a Inv-loop μ-loop
 mul-a c = omega arith
@@ -69,10 +69,10 @@ loop-again c =
     let l = turn .l in (
       omega arith,
       ⊎-elim
-          (λ w. marks-on 96 l f _ _ _ (omega arith) (turn .inv .1) (end-first from to has l (omega arith)) refl (w .1))
+          (λ w. bits-on 96 l f _ _ _ (omega arith) (turn .inv .1) (end-first from to has l (omega arith)) refl (w .1))
           (⊎-elim
-          (λ w. marks-on 96 l f _ _ _ (omega arith) (turn .inv .1) (end-second from to has l (omega arith)) refl (w .3))
-          (λ w. marks-off 96 l f _ _ (turn .inv .1) (end-neither from to has l (omega arith) (omega arith)) (w .3)))
+          (λ w. bits-on 96 l f _ _ _ (omega arith) (turn .inv .1) (end-second from to has l (omega arith)) refl (w .3))
+          (λ w. members-off 96 l f _ _ (turn .inv .1) (end-neither from to has l (omega arith) (omega arith)) (w .3)))
           (c .if1 .came),
     )
 

@@ -4,21 +4,21 @@ use mathlib.Core.Path.{_≡_, refl}
 use mathlib.Core.Logic.{⊎-elim}
 use Prim.Native.Nat.{_≤_, _-_}
 use native.Mathlib.Omega.{arith}
-use Rattle.feeding.specs.Below.{marks}
-use Rattle.feeding.proofs.Marks.{marks-none, marks-on, marks-off}
-use Rattle.marks.specs.Sets.{butNot}
-use Rattle.marks.proofs.Turns.{but-in, but-other, but-out}
-use Rattle.marks.proofs.except.Statement.{statement}
-use Rattle.marks.proofs.except.Tie as tie
+use Rattle.feeding.specs.Below.{bits}
+use Rattle.feeding.proofs.Bits.{bits-none, bits-on, members-off}
+use Rattle.sets.specs.Sets.{butNot}
+use Rattle.sets.proofs.Turns.{but-in, but-other, but-out}
+use Rattle.sets.proofs.except.Statement.{statement}
+use Rattle.sets.proofs.except.Tie as tie
 
 abbrev Inv-loop : tie.InvT-loop
-Inv-loop yes' no' count out₀ x₀ out x = (x ≤ count) × (out ≡ marks 96 x (butNot yes' no'))
+Inv-loop yes' no' count out₀ x₀ out x = (x ≤ count) × (out ≡ bits 96 x (butNot yes' no'))
 
 abbrev μ-loop : tie.MeasureT-loop
 μ-loop yes' no' count out₀ x₀ out x = count - x
 
 loop-holds : tie.Need-loop-holds Inv-loop μ-loop
-loop-holds c = (omega arith, marks-none 96 (butNot (c .args .yes .now) (c .args .no .now)))
+loop-holds c = (omega arith, bits-none 96 (butNot (c .args .yes .now) (c .args .no .now)))
 
 shared-slice-read-if1 : tie.Need-shared-slice-read-if1 Inv-loop μ-loop
 shared-slice-read-if1 c = omega arith
@@ -44,10 +44,10 @@ loop-again c =
     let x = turn .x in (
       omega arith,
       ⊎-elim
-          (λ w. marks-on 96 x f _ _ _ (omega arith) (turn .inv .1) (but-in in-one in-other x (omega arith) (omega arith)) refl (w .3))
+          (λ w. bits-on 96 x f _ _ _ (omega arith) (turn .inv .1) (but-in in-one in-other x (omega arith) (omega arith)) refl (w .3))
           (⊎-elim
-          (λ w. marks-off 96 x f _ _ (turn .inv .1) (but-other in-one in-other x (omega arith) (omega arith)) (w .3))
-          (λ w. marks-off 96 x f _ _ (turn .inv .1) (but-out in-one in-other x (omega arith)) (w .1)))
+          (λ w. members-off 96 x f _ _ (turn .inv .1) (but-other in-one in-other x (omega arith) (omega arith)) (w .3))
+          (λ w. members-off 96 x f _ _ (turn .inv .1) (but-out in-one in-other x (omega arith)) (w .1)))
           (c .if1 .came),
     )
 

@@ -9,12 +9,12 @@ use lib.ListN.{length}
 use borrow.Author.Tests.{eq-eqb, ne-eqb, lt-ltb, le-ltb}
 use native.Mathlib.Omega.{arith}
 use Rattle.feeding.specs.Below.{those}
-use Rattle.feeding.specs.Networks.{at, marked}
+use Rattle.feeding.specs.Networks.{at, isIn}
 use Rattle.feeding.proofs.Below.{eqb-comm, anyTo-ext}
 use Rattle.feeding.proofs.Lows.{length-those-step}
 use Rattle.parts.specs.Labelling.{lastOfPart}
 use Rattle.parts.proofs.Lasts.{last-live}
-use Rattle.marks.specs.Sets.{oneOf, butNot, inMarkedPart, atEitherEnd, members}
+use Rattle.sets.specs.Sets.{oneOf, butNot, inMarkedPart, atEitherEnd, members}
 
 -- ---- one value or the other
 
@@ -52,7 +52,7 @@ module _ (label has : List ℕ) (n : ℕ) (fit : n ≤ 64) (x : ℕ) (inside : a
   last-test : ltb (at (lastOfPart label has n) (at label x)) 64 ≡ inMarkedPart label has n x
   unfolding inMarkedPart
   last-test = last-live label has n (at label x) fit inside
-      ∙ anyTo-ext n _ _ (λ y k. ap (λ b. marked has y && b) (eqb-comm (at label y) (at label x)))
+      ∙ anyTo-ext n _ _ (λ y k. ap (λ b. isIn has y && b) (eqb-comm (at label y) (at label x)))
 
   pub part-marked : (last : List ℕ) → last ≡ lastOfPart label has n → at last (at label x) < 64 → inMarkedPart label has n x ≡ true
   part-marked last e h = sym last-test ∙ lt-ltb _ 64 (rw e at h)
@@ -85,13 +85,13 @@ module _ (has : List ℕ) where
   pub count-on : (x sum sum′ : ℕ) → sum ≡ length (members has x) → at has x ≡ 1 → sum′ ≡ sum + 1 → sum′ ≡ length (members has (x + 1))
   unfolding members
   count-on x sum sum′ p on q =
-      let step : length (those (x + 1) (marked has)) ≡ length (those x (marked has)) + 1 =
-      rw (eq-eqb (at has x) 1 on) at (length-those-step x (marked has)) in
+      let step : length (those (x + 1) (isIn has)) ≡ length (those x (isIn has)) + 1 =
+      rw (eq-eqb (at has x) 1 on) at (length-those-step x (isIn has)) in
       omega arith
 
   pub count-off : (x sum sum′ : ℕ) → sum ≡ length (members has x) → (at has x ≡ 1 → ⊥) → sum′ ≡ sum → sum′ ≡ length (members has (x + 1))
   unfolding members
   count-off x sum sum′ p off q =
-      let step : length (those (x + 1) (marked has)) ≡ length (those x (marked has)) + 0 =
-      rw (ne-eqb (at has x) 1 off) at (length-those-step x (marked has)) in
+      let step : length (those (x + 1) (isIn has)) ≡ length (those x (isIn has)) + 0 =
+      rw (ne-eqb (at has x) 1 off) at (length-those-step x (isIn has)) in
       omega arith

@@ -3,13 +3,13 @@ use parts::last_of_part;
 ghost use mathlib.Core.Path.{_≡_};
 ghost use Prim.Native.Nat.{_<_};
 ghost use lib.ListN.{length};
-ghost use Rattle.feeding.specs.Below.{marks};
-ghost use Rattle.marks.specs.Sets.{Reach, PartsReach, EndsReach, oneOf, butNot, inMarkedPart, atEitherEnd, members};
+ghost use Rattle.feeding.specs.Below.{bits};
+ghost use Rattle.sets.specs.Sets.{Reach, PartsReach, EndsReach, oneOf, butNot, inMarkedPart, atEitherEnd, members};
 
 // Those whose value is the one number or the other.
-pub fn marks_of(values: &[u16], one: u16, other: u16, count: usize) -> [u8; 96]
+pub fn members_of(values: &[u16], one: u16, other: u16, count: usize) -> [u8; 96]
     requires { ⌜ Reach (now values) count ⌝ }
-    ensures { λ r. ⌜ r ≡ marks 96 count (oneOf (now (values .entry)) one other) ⌝ }
+    ensures { λ r. ⌜ r ≡ bits 96 count (oneOf (now (values .entry)) one other) ⌝ }
 {
     let mut out: [u8; 96] = [0; 96];
     let mut x: usize = 0;
@@ -29,7 +29,7 @@ pub fn marks_of(values: &[u16], one: u16, other: u16, count: usize) -> [u8; 96]
 pub fn except(yes: &[u8], no: &[u8], count: usize) -> [u8; 96]
     requires { ⌜ Reach (now yes) count ⌝ }
     requires { ⌜ Reach (now no) count ⌝ }
-    ensures { λ r. ⌜ r ≡ marks 96 count (butNot (now (yes .entry)) (now (no .entry))) ⌝ }
+    ensures { λ r. ⌜ r ≡ bits 96 count (butNot (now (yes .entry)) (now (no .entry))) ⌝ }
 {
     let mut out: [u8; 96] = [0; 96];
     let mut x: usize = 0;
@@ -47,7 +47,7 @@ pub fn except(yes: &[u8], no: &[u8], count: usize) -> [u8; 96]
 // The elements whose part has a member of the set.
 pub fn spread(label: &[u8], has: &[u8], elements: usize) -> [u8; 96]
     requires { ⌜ PartsReach (now label) (now has) elements ⌝ }
-    ensures { λ r. ⌜ r ≡ marks 96 elements (inMarkedPart (now (label .entry)) (now (has .entry)) elements) ⌝ }
+    ensures { λ r. ⌜ r ≡ bits 96 elements (inMarkedPart (now (label .entry)) (now (has .entry)) elements) ⌝ }
 {
     let last = last_of_part(label, has, elements);
     let mut out: [u8; 96] = [0; 96];
@@ -65,7 +65,7 @@ pub fn spread(label: &[u8], has: &[u8], elements: usize) -> [u8; 96]
 // The links with an end in the set.
 pub fn at_either_end(from: &[u16], to: &[u16], has: &[u8], links: usize) -> [u8; 96]
     requires { ⌜ EndsReach (now from) (now to) (now has) links ⌝ }
-    ensures { λ r. ⌜ r ≡ marks 96 links (atEitherEnd (now (from .entry)) (now (to .entry)) (now (has .entry))) ⌝ }
+    ensures { λ r. ⌜ r ≡ bits 96 links (atEitherEnd (now (from .entry)) (now (to .entry)) (now (has .entry))) ⌝ }
 {
     let mut out: [u8; 96] = [0; 96];
     let mut l: usize = 0;

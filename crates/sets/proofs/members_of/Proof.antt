@@ -1,24 +1,24 @@
--- `marks_of` meets its contract. The loop's invariant: out marks those below x whose value is one or the other.
+-- `members_of` meets its contract. The loop's invariant: out marks those below x whose value is one or the other.
 -- Assumes nothing.
 use mathlib.Core.Path.{_≡_, refl}
 use mathlib.Core.Logic.{⊎-elim}
 use Prim.Native.Nat.{_≤_, _-_}
 use native.Mathlib.Omega.{arith}
-use Rattle.feeding.specs.Below.{marks}
-use Rattle.feeding.proofs.Marks.{marks-none, marks-on, marks-off}
-use Rattle.marks.specs.Sets.{oneOf}
-use Rattle.marks.proofs.Turns.{one-first, one-second, one-neither}
-use Rattle.marks.proofs.marks_of.Statement.{statement}
-use Rattle.marks.proofs.marks_of.Tie as tie
+use Rattle.feeding.specs.Below.{bits}
+use Rattle.feeding.proofs.Bits.{bits-none, bits-on, members-off}
+use Rattle.sets.specs.Sets.{oneOf}
+use Rattle.sets.proofs.Turns.{one-first, one-second, one-neither}
+use Rattle.sets.proofs.members_of.Statement.{statement}
+use Rattle.sets.proofs.members_of.Tie as tie
 
 abbrev Inv-loop : tie.InvT-loop
-Inv-loop values one other count out₀ x₀ out x = (x ≤ count) × (out ≡ marks 96 x (oneOf values one other))
+Inv-loop values one other count out₀ x₀ out x = (x ≤ count) × (out ≡ bits 96 x (oneOf values one other))
 
 abbrev μ-loop : tie.MeasureT-loop
 μ-loop values one other count out₀ x₀ out x = count - x
 
 loop-holds : tie.Need-loop-holds Inv-loop μ-loop
-loop-holds c = (omega arith, marks-none 96 (oneOf (c .args .values .now) (c .args .one) (c .args .other)))
+loop-holds c = (omega arith, bits-none 96 (oneOf (c .args .values .now) (c .args .one) (c .args .other)))
 
 mul-value : tie.Need-mul-value Inv-loop μ-loop
 mul-value c = omega arith
@@ -47,10 +47,10 @@ loop-again c =
     let x = turn .x in (
       omega arith,
       ⊎-elim
-          (λ w. marks-on 96 x f _ _ _ (omega arith) (turn .inv .1) (one-first vs (a .one) (a .other) x (omega arith)) refl (w .1))
+          (λ w. bits-on 96 x f _ _ _ (omega arith) (turn .inv .1) (one-first vs (a .one) (a .other) x (omega arith)) refl (w .1))
           (⊎-elim
-          (λ w. marks-on 96 x f _ _ _ (omega arith) (turn .inv .1) (one-second vs (a .one) (a .other) x (omega arith)) refl (w .2))
-          (λ w. marks-off 96 x f _ _ (turn .inv .1) (one-neither vs (a .one) (a .other) x (omega arith) (omega arith)) (w .2)))
+          (λ w. bits-on 96 x f _ _ _ (omega arith) (turn .inv .1) (one-second vs (a .one) (a .other) x (omega arith)) refl (w .2))
+          (λ w. members-off 96 x f _ _ (turn .inv .1) (one-neither vs (a .one) (a .other) x (omega arith) (omega arith)) (w .2)))
           (c .if1 .came),
     )
 
@@ -59,8 +59,8 @@ returns c =
     let all : c .before .loop .x ≡ c .before .before .args .count = omega arith in
     rw (← all) (c .before .loop .inv .1)
 
-pub marks-of-spec : {M : Type 1} → statement M
-marks-of-spec =
+pub members-of-spec : {M : Type 1} → statement M
+members-of-spec =
     tie.close
     (tie.spec
     Inv-loop

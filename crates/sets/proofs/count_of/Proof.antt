@@ -5,10 +5,10 @@ use mathlib.Core.Logic.{⊎-elim}
 use Prim.Native.Nat.{_≤_, _-_}
 use native.Mathlib.Omega.{arith}
 use lib.ListN.{length}
-use Rattle.marks.specs.Sets.{members}
-use Rattle.marks.proofs.Turns.{count-none, count-on, count-off}
-use Rattle.marks.proofs.count_of.Statement.{statement}
-use Rattle.marks.proofs.count_of.Tie as tie
+use Rattle.sets.specs.Sets.{members}
+use Rattle.sets.proofs.Turns.{count-none, count-on, count-off}
+use Rattle.sets.proofs.count_of.Statement.{statement}
+use Rattle.sets.proofs.count_of.Tie as tie
 
 abbrev Inv-loop : tie.InvT-loop
 Inv-loop has count sum₀ x₀ sum x = (x ≤ count) × (sum ≤ x) × (sum ≡ length (members has x))
