@@ -16,6 +16,7 @@ use Rattle.feeding.proofs.States.{safety-same}
 use Rattle.feeding.proofs.Views.{formed-net}
 use Rattle.ends.specs.declared.OwnEnds.{OwnEnds}
 use Rattle.ends.specs.Ends.{TwoEnds, ownEnds}
+use Rattle.loads.proofs.Same as Same
 use Rattle.sets.specs.Sets.{oneOf}
 use Rattle.safety.specs.Checks.{Checked}
 use Rattle.restoration.proofs.Sets.{closed-at}
@@ -23,14 +24,10 @@ use Rattle.acceptance.specs.Reading.{startSafety}
 
 module _ (n : Network) (w : WellFormed n) where
   pub two-ends : TwoEnds (n .from) (n .to) (n .links)
+  unfolding netOf
   two-ends =
-      record {
-        fit = w .links-fit;
-        from-long = omega (arith, w .from-long, w .links-fit);
-        to-long = omega (arith, w .to-long, w .links-fit);
-        from-in = λ l k. omega (arith, w .from-in l k, w .elements-fit);
-        to-in = λ l k. omega (arith, w .to-in l k, w .elements-fit);
-      }
+      Same.two-ends (n .elements) (n .links) (n .load) (n .capacity) (n .flags) (n .from) (n .to) (formed-net n w) (w .elements-fit) (w .links-fit)
+      (omega (arith, w .from-long, w .links-fit)) (omega (arith, w .to-long, w .links-fit))
 
   pub checked : (own : OwnEnds) (closed : List ℕ) → own ≡ ownEnds (at (n .from)) (at (n .to)) (n .links) → closed ≡ bits 96 (n .links) (oneOf (n .form) 0 2)
       → Checked (n .load) (n .capacity) (n .flags) (n .from) (n .to) (own .head) (own .next) (own .far) closed (n .elements) (n .links)

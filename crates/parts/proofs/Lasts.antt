@@ -69,9 +69,9 @@ module _ (label has : List ℕ) where
   last-live n k h b = ap (λ (x : ℕ). ltb x 64) (last-at n k b) ∙ highest-lt n 64 (λ x. eqb (at has x) 1 && eqb (at label x) k) h
 
   -- such an entry is a marked element of the part, and none above it is
-  pub last-marked : (n k : ℕ) → n ≤ 64 → k < 64 → at (lastOfPart label has n) k < 64
+  pub last-member : (n k : ℕ) → n ≤ 64 → k < 64 → at (lastOfPart label has n) k < 64
       → (at (lastOfPart label has n) k < n) × (at has (at (lastOfPart label has n) k) ≡ 1) × (at label (at (lastOfPart label has n) k) ≡ k)
-  last-marked n k h b low = rw (last-at n k b) (r .0, eqb-true _ _ (and-left _ _ (r .1)), eqb-true _ _ (and-right (eqb (at has x) 1) _ (r .1)))
+  last-member n k h b low = rw (last-at n k b) (r .0, eqb-true _ _ (and-left _ _ (r .1)), eqb-true _ _ (and-right (eqb (at has x) 1) _ (r .1)))
     where
       f : ℕ → Bool
       f x = eqb (at has x) 1 && eqb (at label x) k
@@ -109,7 +109,7 @@ module _ (label has : List ℕ) where
           (and-both (eqb (at has x) 1) (eqb (at label x) (at label x)) (eq-eqb (at has x) 1 on) (eq-eqb (at label x) (at label x) refl)))
 
       m : (y < n) × (at has y ≡ 1) × (at label y ≡ at label x)
-      m = last-marked n (at label x) h b low
+      m = last-member n (at label x) h b low
 
       go : (t : Bool) → eqb y x ≡ t → y ≡ x
       go true t = eqb-true y x t

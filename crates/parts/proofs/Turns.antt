@@ -59,24 +59,24 @@ module _ (p : List ℕ) (f : Falls p) (hi lo i j : ℕ) (in-hi : hi < length p) 
 
 -- ---- the invariant
 
--- after l links: the roots are the labels, and the marks stand where loops closed
+-- after l links: the roots are the labels, and the set has the first ends of the links that closed loops
 pub record Stands (a b : ℕ → ℕ) (c : Config) (l : ℕ) (parent looped : List ℕ) : Type 0 where
   pub long : length parent ≡ 64
   pub falls : Falls parent
   pub roots : (x : ℕ) → x < 64 → rootOf parent x ≡ at (labels 64 a b c l) x
-  pub bits : looped ≡ loopSet 64 a b c l
+  pub loops : looped ≡ loopSet 64 a b c l
 
 module _ (a b : ℕ → ℕ) (c : Config) where
-  bits-on : (l : ℕ) → c l ≡ true → at (labels 64 a b c l) (a l) ≡ at (labels 64 a b c l) (b l)
+  loops-closed : (l : ℕ) → c l ≡ true → at (labels 64 a b c l) (a l) ≡ at (labels 64 a b c l) (b l)
       → loopSet 64 a b c (suc l) ≡ set (loopSet 64 a b c l) (a l) 1
-  bits-on l h e = loops-on 64 a b c l (and-both (c l) _ h (eq-eqb _ _ e))
+  loops-closed l h e = loops-on 64 a b c l (and-both (c l) _ h (eq-eqb _ _ e))
 
-  marks-apart : (l : ℕ) → c l ≡ true → (at (labels 64 a b c l) (a l) ≡ at (labels 64 a b c l) (b l) → ⊥)
+  loops-apart : (l : ℕ) → c l ≡ true → (at (labels 64 a b c l) (a l) ≡ at (labels 64 a b c l) (b l) → ⊥)
       → loopSet 64 a b c (suc l) ≡ loopSet 64 a b c l
-  marks-apart l h e = loops-off 64 a b c l (rw h (ne-eqb (at (labels 64 a b c l) (a l)) (at (labels 64 a b c l) (b l)) e))
+  loops-apart l h e = loops-off 64 a b c l (rw h (ne-eqb (at (labels 64 a b c l) (a l)) (at (labels 64 a b c l) (b l)) e))
 
-  marks-open : (l : ℕ) → c l ≡ false → loopSet 64 a b c (suc l) ≡ loopSet 64 a b c l
-  marks-open l h = loops-off 64 a b c l (rw h)
+  loops-open : (l : ℕ) → c l ≡ false → loopSet 64 a b c (suc l) ≡ loopSet 64 a b c l
+  loops-open l h = loops-off 64 a b c l (rw h)
 
 module _ (a b : ℕ → ℕ) (c : Config) where
   pub stands-none : (p looped : List ℕ) → p ≡ tabulate 64 (λ e. e) → looped ≡ replicate 64 0 → Stands a b c 0 p looped
@@ -88,7 +88,7 @@ module _ (a b : ℕ → ℕ) (c : Config) where
         falls = λ x k. omega (arith, each x (omega arith));
         roots = λ x k.
             root-own p x (each x k) ∙ sym (at-tabulate 64 (λ e. e) x k) ∙ ap (λ (q : List ℕ). at q x) (sym (labels-none 64 a b c));
-        bits = m ∙ sym (loops-none 64 a b c);
+        loops = m ∙ sym (loops-none 64 a b c);
       }
 
 module _ (a b : ℕ → ℕ) (c : Config) (l : ℕ) (p looped : List ℕ) (inv : Stands a b c l p looped) where
@@ -97,7 +97,7 @@ module _ (a b : ℕ → ℕ) (c : Config) (l : ℕ) (p looped : List ℕ) (inv :
     long = inv .long;
     falls = inv .falls;
     roots = λ x k. inv .roots x k ∙ ap (λ (ls : List ℕ). at ls x) (sym (labels-open 64 a b c l h));
-    bits = inv .bits ∙ sym (marks-open a b c l h);
+    loops = inv .loops ∙ sym (loops-open a b c l h);
   }
 
   module _ (closed : c l ≡ true) (in-a : a l < 64) (in-b : b l < 64) (x y : ℕ) (x-is : x ≡ rootOf p (a l)) (y-is : y ≡ rootOf p (b l)) where
@@ -128,7 +128,7 @@ module _ (a b : ℕ → ℕ) (c : Config) (l : ℕ) (p looped : List ℕ) (inv :
           ∙ sym (relabel-self x _)
           ∙ ap (λ (y : ℕ). relabel y x (at (labels 64 a b c l) e)) same
           ∙ sym (next-low (omega arith) e);
-      bits = ap (λ (m : List ℕ). set m (a l) 1) (inv .bits) ∙ sym (bits-on a b c l closed (x-label ∙ same ∙ sym y-label));
+      loops = ap (λ (m : List ℕ). set m (a l) 1) (inv .loops) ∙ sym (loops-closed a b c l closed (x-label ∙ same ∙ sym y-label));
     }
 
     x-own : at p x ≡ x
@@ -138,7 +138,7 @@ module _ (a b : ℕ → ℕ) (c : Config) (l : ℕ) (p looped : List ℕ) (inv :
     y-own = rw y-is (root-is p (inv .falls) (b l))
 
     apart : (x ≡ y → ⊥) → looped ≡ loopSet 64 a b c (suc l)
-    apart h = inv .bits ∙ sym (marks-apart a b c l closed (λ e. h (sym x-label ∙ e ∙ y-label)))
+    apart h = inv .loops ∙ sym (loops-apart a b c l closed (λ e. h (sym x-label ∙ e ∙ y-label)))
 
     pub turn-low : x < y → Stands a b c (l + 1) (set (set (set p y x) (a l) x) (b l) x) looped
     turn-low lt =
@@ -154,7 +154,7 @@ module _ (a b : ℕ → ℕ) (c : Config) (l : ℕ) (p looped : List ℕ) (inv :
               join-root p (inv .falls) y x (a l) (b l) in-y y-own x-own lt in-i in-j to-a to-b e (omega (arith, inv .long))
               ∙ ap (relabel y x) (inv .roots e k)
               ∙ sym (next-low (omega arith) e);
-          bits = apart (omega arith);
+          loops = apart (omega arith);
         }
 
     pub turn-high : y < x → Stands a b c (l + 1) (set (set (set p x y) (a l) y) (b l) y) looped
@@ -171,7 +171,7 @@ module _ (a b : ℕ → ℕ) (c : Config) (l : ℕ) (p looped : List ℕ) (inv :
               join-root p (inv .falls) x y (a l) (b l) in-x x-own y-own lt in-i in-j to-a to-b e (omega (arith, inv .long))
               ∙ ap (relabel x y) (inv .roots e k)
               ∙ sym (next-high lt e);
-          bits = apart (omega arith);
+          loops = apart (omega arith);
         }
 
   -- all links taken: the roots are the labels
@@ -184,4 +184,4 @@ pub parts-done : (from to closed : List ℕ) (l links : ℕ) (p looped label : L
     → label ≡ rootsOf p → _≡_ {A = Parts} (record { label = label; looped = looped }) (partsOf from to closed links)
 unfolding partsOf
 parts-done from to closed l links p looped label inv all e =
-    rw (e ∙ roots-labels (at from) (at to) (closedIn closed) l p looped inv, inv .bits, all)
+    rw (e ∙ roots-labels (at from) (at to) (closedIn closed) l p looped inv, inv .loops, all)

@@ -8,6 +8,7 @@ use lib.ListN.{length}
 use Rattle.feeding.specs.Below.{leastTo}
 use Rattle.feeding.specs.Networks.{at, isIn}
 
+-- the lists reach over the first n elements
 pub record LoopsReach (label looped : List ℕ) (n : ℕ) : Type 0 where
   pub label-long : n ≤ length label
   pub looped-long : n ≤ length looped
@@ -16,6 +17,7 @@ pub record LoopsReach (label looped : List ℕ) (n : ℕ) : Type 0 where
 unfoldable pub leastLooped : (label looped : List ℕ) → ℕ → ℕ
 leastLooped label looped n = leastTo n n (λ x. elim (isIn looped x) [ true ↦ at label x | false ↦ n ])
 
+-- and the labels are numbers of the list `last`
 pub record LastReach (label has last : List ℕ) (n : ℕ) : Type 0 where
   pub label-long : n ≤ length label
   pub has-long : n ≤ length has

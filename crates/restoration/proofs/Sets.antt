@@ -19,14 +19,14 @@ use Rattle.feeding.proofs.States.{live-same}
 use Rattle.feeding.proofs.Tests.{sound-flag}
 use Rattle.parts.specs.declared.Parts.{Parts}
 use Rattle.parts.specs.Labelling.{partsOf}
-use Rattle.sets.specs.Sets.{oneOf, butNot, inMarkedPart, atEitherEnd}
+use Rattle.sets.specs.Sets.{oneOf, butNot, partHas, atEitherEnd}
 use Rattle.restoration.specs.Living.{ConfigurationReach, liveIn}
 use Rattle.restoration.proofs.Spreads.{spread-is}
 
 module _ (E K : ℕ) (flags from to closed : List ℕ) (reach : ConfigurationReach flags from to closed E K) where
   -- the live elements
   pub live-is : (parts : Parts) (sound : List ℕ) → parts ≡ partsOf from to closed K → sound ≡ bits 96 E (oneOf flags 1 1)
-      → bits 96 E (inMarkedPart (parts .label) sound E) ≡ bits 96 E (liveIn E K flags from to closed)
+      → bits 96 E (partHas (parts .label) sound E) ≡ bits 96 E (liveIn E K flags from to closed)
   unfolding liveIn live? sound? gridOf oneOf
   live-is parts sound p e = rw p (bits-ext 96 E _ _ (λ x k. spread-is E K [] [] flags from to closed (closedIn closed) (reach .elements-fit)
       (λ l kl. (reach .from-in l kl, reach .to-in l kl)) (λ _ _. refl) sound (sound? (gridOf E K [] [] flags from to)) sound-is x k))
@@ -61,7 +61,7 @@ module _ (n : Network) (w : WellFormed n) where
 
   pub spoiled-is : (fixed : List ℕ) (parts : Parts) (faulty : List ℕ) → fixed ≡ bits 96 (n .links) (oneOf (n .form) 0 0)
       → parts ≡ partsOf (n .from) (n .to) fixed (n .links) → faulty ≡ bits 96 (n .elements) (oneOf (n .flags) 2 3)
-      → bits 96 (n .elements) (inMarkedPart (parts .label) faulty (n .elements)) ≡ bits 96 (n .elements) (spoiled? (netOf n))
+      → bits 96 (n .elements) (partHas (parts .label) faulty (n .elements)) ≡ bits 96 (n .elements) (spoiled? (netOf n))
   unfolding spoiled? netOf gridOf oneOf
   spoiled-is fixed parts faulty f p h =
       rw p (bits-ext 96 (n .elements) _ _
@@ -99,7 +99,7 @@ module _ (n : Network) (w : WellFormed n) where
     pub restorable-is : (clear : List ℕ) (parts : Parts) (unspoiled reached : List ℕ) → ((l : ℕ) → l < n .links → closedIn clear l ≡ clean (netOf n) l)
         → ((e : ℕ) → e < n .elements → isIn unspoiled e ≡ (netOf n .grid .source e && not (spoiled? (netOf n) e)))
         → parts ≡ partsOf (n .from) (n .to) clear (n .links)
-        → reached ≡ bits 96 (n .elements) (inMarkedPart (parts .label) unspoiled (n .elements))
+        → reached ≡ bits 96 (n .elements) (partHas (parts .label) unspoiled (n .elements))
         → bits 96 (n .elements) (butNot reached spoiled) ≡ bits 96 (n .elements) (restorable? (netOf n))
     unfolding restorable? netOf gridOf butNot
     restorable-is clear parts unspoiled reached cl un p r = bits-ext 96 (n .elements) _ _ (λ e k.

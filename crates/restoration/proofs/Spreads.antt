@@ -11,7 +11,7 @@ use Rattle.feeding.specs.Parts.{Config, closedIn, label, joined?}
 use Rattle.feeding.proofs.Below.{anyTo-ext}
 use Rattle.feeding.proofs.Labels.{labels-wider, labels-ext}
 use Rattle.parts.specs.Labelling.{partsOf}
-use Rattle.sets.specs.Sets.{inMarkedPart}
+use Rattle.sets.specs.Sets.{partHas}
 
 -- the states that the list holds are those of the configuration c
 module _ (E K : ℕ) (load capacity flags from to closed : List ℕ) (c : Config) (fit : E ≤ 64)
@@ -23,6 +23,6 @@ module _ (E K : ℕ) (load capacity flags from to closed : List ℕ) (c : Config
       ∙ ap (λ (ls : List ℕ). at ls e) (labels-ext E (at from) (at from) (at to) (at to) (closedIn closed) c K (λ _ _. refl) (λ _ _. refl) same)
 
   pub spread-is : (has : List ℕ) (h : ℕ → Bool) → ((y : ℕ) → y < E → isIn has y ≡ h y) → (x : ℕ) → x < E
-      → inMarkedPart (partsOf from to closed K .label) has E x ≡ anyTo E (λ y. h y && joined? (gridOf E K load capacity flags from to) c y x)
-  unfolding inMarkedPart joined?
+      → partHas (partsOf from to closed K .label) has E x ≡ anyTo E (λ y. h y && joined? (gridOf E K load capacity flags from to) c y x)
+  unfolding partHas joined?
   spread-is has h is x k = anyTo-ext E _ _ (λ y ky. ap₂ _&&_ (is y ky) (ap₂ eqb (label-is x k) (label-is y ky)))

@@ -14,7 +14,7 @@ use Rattle.feeding.proofs.Below.{eqb-comm, anyTo-ext}
 use Rattle.feeding.proofs.Lows.{length-those-step}
 use Rattle.parts.specs.Labelling.{lastOfPart}
 use Rattle.parts.proofs.Lasts.{last-live}
-use Rattle.sets.specs.Sets.{oneOf, butNot, inMarkedPart, atEitherEnd, members}
+use Rattle.sets.specs.Sets.{oneOf, butNot, partHas, atEitherEnd, members}
 
 -- ---- one value or the other
 
@@ -49,16 +49,16 @@ module _ (kept left : List ℕ) (x : ℕ) where
 -- ---- the highest marked element of a part: below 64 where there is one
 
 module _ (label has : List ℕ) (n : ℕ) (fit : n ≤ 64) (x : ℕ) (inside : at label x < 64) where
-  last-test : ltb (at (lastOfPart label has n) (at label x)) 64 ≡ inMarkedPart label has n x
-  unfolding inMarkedPart
+  last-test : ltb (at (lastOfPart label has n) (at label x)) 64 ≡ partHas label has n x
+  unfolding partHas
   last-test = last-live label has n (at label x) fit inside
       ∙ anyTo-ext n _ _ (λ y k. ap (λ b. isIn has y && b) (eqb-comm (at label y) (at label x)))
 
-  pub part-marked : (last : List ℕ) → last ≡ lastOfPart label has n → at last (at label x) < 64 → inMarkedPart label has n x ≡ true
-  part-marked last e h = sym last-test ∙ lt-ltb _ 64 (rw e at h)
+  pub part-has : (last : List ℕ) → last ≡ lastOfPart label has n → at last (at label x) < 64 → partHas label has n x ≡ true
+  part-has last e h = sym last-test ∙ lt-ltb _ 64 (rw e at h)
 
-  pub part-unmarked : (last : List ℕ) → last ≡ lastOfPart label has n → 64 ≤ at last (at label x) → inMarkedPart label has n x ≡ false
-  part-unmarked last e h = sym last-test ∙ le-ltb _ 64 (rw e at h)
+  pub part-lacks : (last : List ℕ) → last ≡ lastOfPart label has n → 64 ≤ at last (at label x) → partHas label has n x ≡ false
+  part-lacks last e h = sym last-test ∙ le-ltb _ 64 (rw e at h)
 
 -- ---- a link's ends
 

@@ -4,7 +4,7 @@ ghost use mathlib.Core.Path.{_≡_};
 ghost use Prim.Native.Nat.{_<_};
 ghost use lib.ListN.{length};
 ghost use Rattle.feeding.specs.Below.{bits};
-ghost use Rattle.sets.specs.Sets.{Reach, PartsReach, EndsReach, oneOf, butNot, inMarkedPart, atEitherEnd, members};
+ghost use Rattle.sets.specs.Sets.{Reach, PartsReach, EndsReach, oneOf, butNot, partHas, atEitherEnd, members};
 
 // Those whose value is the one number or the other.
 pub fn members_of(values: &[u16], one: u16, other: u16, count: usize) -> [u8; 96]
@@ -47,7 +47,7 @@ pub fn except(yes: &[u8], no: &[u8], count: usize) -> [u8; 96]
 // The elements whose part has a member of the set.
 pub fn spread(label: &[u8], has: &[u8], elements: usize) -> [u8; 96]
     requires { ⌜ PartsReach (now label) (now has) elements ⌝ }
-    ensures { λ r. ⌜ r ≡ bits 96 elements (inMarkedPart (now (label .entry)) (now (has .entry)) elements) ⌝ }
+    ensures { λ r. ⌜ r ≡ bits 96 elements (partHas (now (label .entry)) (now (has .entry)) elements) ⌝ }
 {
     let last = last_of_part(label, has, elements);
     let mut out: [u8; 96] = [0; 96];

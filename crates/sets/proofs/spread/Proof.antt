@@ -6,13 +6,13 @@ use Prim.Native.Nat.{_≤_, _-_}
 use native.Mathlib.Omega.{arith}
 use Rattle.feeding.specs.Below.{bits}
 use Rattle.feeding.proofs.Bits.{bits-none, bits-on, members-off}
-use Rattle.sets.specs.Sets.{inMarkedPart}
-use Rattle.sets.proofs.Turns.{part-marked, part-unmarked}
+use Rattle.sets.specs.Sets.{partHas}
+use Rattle.sets.proofs.Turns.{part-has, part-lacks}
 use Rattle.sets.proofs.spread.Statement.{statement}
 use Rattle.sets.proofs.spread.Tie as tie
 
 abbrev Inv-loop : tie.InvT-loop
-Inv-loop label has elements last out₀ x₀ out x = (x ≤ elements) × (out ≡ bits 96 x (inMarkedPart label has elements))
+Inv-loop label has elements last out₀ x₀ out x = (x ≤ elements) × (out ≡ bits 96 x (partHas label has elements))
 
 abbrev μ-loop : tie.MeasureT-loop
 μ-loop label has elements last out₀ x₀ out x = elements - x
@@ -25,7 +25,7 @@ last-of-part-requires c κs =
 loop-holds : tie.Need-loop-holds Inv-loop μ-loop
 loop-holds c =
     let a = c .before .before .before .args in
-    (omega arith, bits-none 96 (inMarkedPart (a .label .now) (a .has .now) (a .elements)))
+    (omega arith, bits-none 96 (partHas (a .label .now) (a .has .now) (a .elements)))
 
 shared-slice-read-k : tie.Need-shared-slice-read-k Inv-loop μ-loop
 shared-slice-read-k c = omega arith
@@ -53,15 +53,15 @@ loop-again c =
     let label = start .args .label .now in
     let has = start .args .has .now in
     let n = start .args .elements in
-    let f = inMarkedPart label has n in
+    let f = partHas label has n in
     let x = turn .x in
     let inside = start .pre .label-in x (omega arith) in (
       omega arith,
       ⊎-elim
           (λ w. bits-on 96 x f _ _ _ (omega arith) (turn .inv .1)
-          (part-marked label has n (omega arith) x inside _ (called .ensures) (omega arith)) refl (w .1))
+          (part-has label has n (omega arith) x inside _ (called .ensures) (omega arith)) refl (w .1))
           (λ w. members-off 96 x f _ _ (turn .inv .1)
-          (part-unmarked label has n (omega arith) x inside _ (called .ensures) (omega arith)) (w .1))
+          (part-lacks label has n (omega arith) x inside _ (called .ensures) (omega arith)) (w .1))
           (c .if1 .came),
     )
 
@@ -69,7 +69,7 @@ returns : tie.Need-returns Inv-loop μ-loop
 returns c =
     let a = c .before .before .before .before .before .args in
     let all : c .before .loop .x ≡ a .elements = omega arith in
-    c .before .loop .inv .1 ∙ ap (λ n. bits 96 n (inMarkedPart (a .label .now) (a .has .now) (a .elements))) all
+    c .before .loop .inv .1 ∙ ap (λ n. bits 96 n (partHas (a .label .now) (a .has .now) (a .elements))) all
 
 pub spread-spec : {M : Type 1} → statement M
 spread-spec =
