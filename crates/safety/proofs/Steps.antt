@@ -1,11 +1,11 @@
 -- What each step of `check` asks of the lent lists, and what each of its answers is: the first rule of 14 to 17 that is broken.
 -- Assumes nothing.
 use mathlib.Core.Path.{_≡_, refl, sym, ap, _∙_}
-use mathlib.Core.Bool.{Bool, or-self}
+use mathlib.Core.Bool.{Bool, false, or-self}
 use mathlib.Core.List.{List}
 use Prim.Native.Nat.{ℕ, _<_, _≤_}
 use native.Mathlib.Omega.{arith}
-use lib.Dec.{eqb}
+use lib.Dec.{eqb, ltb}
 use lib.ListN.{length}
 use borrow.Author.Tests.{lt-ltb, le-ltb}
 use Rattle.network.specs.declared.refusal.Rule.{Rule}
@@ -72,6 +72,20 @@ module _ {load capacity flags from to head next far closed : List ℕ} {E K : �
   lists-lent = rw (ok .head-is, ok .next-is, ok .far-is)
       (lent E K load capacity flags from to (ok .formed) (ok .elements-fit) (ok .links-fit) (ownEnds (at from) (at to) K) refl
       closed (ok .closed-long) (ok .load-long) (ok .capacity-long))
+
+  -- where every part is a tree, the load at each element is below 2 ^ 64
+  pub trees-carried : (sound : List ℕ) → ltb (treePlace grid config) E ≡ false → Carries (walkGrid E K far load capacity) config sound
+  unfolding gridOf
+  trees-carried sound trees = rw (ok .far-is)
+      (carries E K load capacity flags from to (ok .formed) (ok .elements-fit) (ok .links-fit) (ownEnds (at from) (at to) K) refl
+      config sound (safe-bridges grid (ok .formed) config (trees-kept grid (ok .formed) config trees)) (ok .load-in))
+
+  -- the lowest overloaded element over the lent lists
+  pub over-lowest-is : (sound : List ℕ) → sound ≡ bits 96 E (oneOf flags 1 1)
+      → overPlace (walkGrid E K far load capacity) config sound ≡ lowestOver grid config
+  over-lowest-is sound sound-is = rw (ok .far-is)
+      (over-place-is E K load capacity flags from to (ok .formed) (ok .elements-fit) (ok .links-fit) (ownEnds (at from) (at to) K) refl
+      config sound (sound-at sound sound-is))
 
   -- ---- with the parts
 
@@ -158,17 +172,11 @@ module _ {load capacity flags from to head next far closed : List ℕ} {E K : �
           -- ---- rule 17
 
           pub loads-carried : Carries (walkGrid E K far load capacity) config sound
-          unfolding gridOf
-          loads-carried = rw (ok .far-is)
-              (carries E K load capacity flags from to (ok .formed) (ok .elements-fit) (ok .links-fit) (ownEnds (at from) (at to) K) refl
-              config sound (safe-bridges grid (ok .formed) config
-              (trees-kept grid (ok .formed) config (le-ltb (treePlace grid config) E (omega (arith, tree-found))))) (ok .load-in))
+          loads-carried = trees-carried sound (le-ltb (treePlace grid config) E (omega (arith, tree-found)))
 
           module _ (clear : E ≤ fault) {over : ℕ} (over-is : over ≡ overPlace (walkGrid E K far load capacity) config sound) where
             over-found : over ≡ lowestOver grid config
-            over-found = over-is ∙ rw (ok .far-is)
-                (over-place-is E K load capacity flags from to (ok .formed) (ok .elements-fit) (ok .links-fit) (ownEnds (at from) (at to) K) refl
-                config sound (sound-at sound sound-is))
+            over-found = over-is ∙ over-lowest-is sound sound-is
 
             kept : safety grid config ≡ brokenAt grid Overloaded (lowestOver grid config) Accepted
             unfolding safety gridOf

@@ -1,10 +1,10 @@
--- `feeding_cases::file_of` is safe and ends: the loop counts up to the length of the text.
+-- `case_files::file_of` is safe and ends: the loop counts up to the length of the text.
 -- Assumes nothing.
 use Prim.Native.Nat.{_-_}
 use lib.ListN.{length}
 use native.Mathlib.Omega.{arith}
-use Rattle.feeding_cases.proofs.file_of.Statement.{statement}
-use Rattle.feeding_cases.proofs.file_of.Tie as tie
+use Rattle.case_files.proofs.file_of.Statement.{statement}
+use Rattle.case_files.proofs.file_of.Tie as tie
 
 abbrev Inv-loop : tie.InvT-loop
 Inv-loop signs file₀ i₀ file i = Unit {0}

@@ -1,0 +1,161 @@
+// Whether every live element stays within its capacity: a walk away from each sound source that stops at the first element that does not.
+ghost use mathlib.Core.Path.{_≡_};
+ghost use mathlib.Core.Bool.{not};
+ghost use Prim.Native.Nat.{_<_, _≤_, _^_, _*_, _/_};
+ghost use lib.Dec.{ltb};
+ghost use Rattle.feeding.specs.Parts.{closedIn};
+ghost use Rattle.feeding.specs.Loads.{elementLoad, linkLoad};
+ghost use Rattle.loads.specs.Walks.{Lent, walkGrid, nearAt, Carries, overPlace};
+ghost use Rattle.capacity.specs.Holding.{heldWithin, heldAt, linkHeld};
+
+// A load, and whether every element that was met on the way is within its capacity; the load is 0 where one is not.
+pub struct Held {
+    pub load: u64,
+    pub fits: bool,
+}
+
+// What is held by an element of this load and capacity.
+fn held_within(load: u64, capacity: u32) -> Held
+    ensures { λ r. ⌜ r ≡ heldWithin load capacity ⌝ }
+{
+    if load <= capacity as u64 {
+        return Held { load, fits: true };
+    }
+    Held {
+        load: 0,
+        fits: false,
+    }
+}
+
+// What is held from e onward, come to over the link via.
+pub fn element_held<'a>(
+    head: &'a [u8; 64],
+    next: &'a [u8; 192],
+    far: &'a [u8; 192],
+    closed: &'a [u8; 96],
+    load: &'a [u32; 64],
+    capacity: &'a [u32; 64],
+    elements: usize,
+    links: usize,
+    e: usize,
+    via: usize,
+    depth: usize,
+) -> Held
+    requires { ⌜ Lent (now head) (now next) (now far) (now closed) (now load) (now capacity) elements links ⌝ }
+    requires { ⌜ (elements ≤ 64) × (e < elements) ⌝ }
+    requires { ⌜ elementLoad (walkGrid elements links (now far) (now load) (now capacity)) (closedIn (now closed)) depth e via < 2 ^ 64 ⌝ }
+    ensures { λ r. ⌜ r ≡ heldAt (walkGrid elements links (now (far .entry)) (now (load .entry)) (now (capacity .entry))) (closedIn (now (closed .entry))) depth e via ⌝ }
+{
+    let mut sum = load[e] as u64;
+    if depth == 0 {
+        return held_within(sum, capacity[e]);
+    }
+    let mut j = head[e] as usize;
+    while j < 192 {
+        let l = j / 2;
+        if closed[l] == 1 {
+            if l != via {
+                let c = link_held(
+                    head,
+                    next,
+                    far,
+                    closed,
+                    load,
+                    capacity,
+                    elements,
+                    links,
+                    j,
+                    depth - 1,
+                );
+                if !c.fits {
+                    return c;
+                }
+                sum = sum + c.load;
+            }
+        }
+        j = next[j] as usize;
+    }
+    held_within(sum, capacity[e])
+}
+
+// What is held over the link of end j, away from that end: from its far element onward.
+pub fn link_held<'a>(
+    head: &'a [u8; 64],
+    next: &'a [u8; 192],
+    far: &'a [u8; 192],
+    closed: &'a [u8; 96],
+    load: &'a [u32; 64],
+    capacity: &'a [u32; 64],
+    elements: usize,
+    links: usize,
+    j: usize,
+    depth: usize,
+) -> Held
+    requires { ⌜ Lent (now head) (now next) (now far) (now closed) (now load) (now capacity) elements links ⌝ }
+    requires { ⌜ (elements ≤ 64) × (j < 2 * links) ⌝ }
+    requires { ⌜ linkLoad (walkGrid elements links (now far) (now load) (now capacity)) (closedIn (now closed)) depth (j / 2) (nearAt (now far) j) < 2 ^ 64 ⌝ }
+    ensures { λ r. ⌜ r ≡ linkHeld (walkGrid elements links (now (far .entry)) (now (load .entry)) (now (capacity .entry))) (closedIn (now (closed .entry))) depth (j / 2) (nearAt (now (far .entry)) j) ⌝ }
+{
+    if depth == 0 {
+        return Held {
+            load: 0,
+            fits: true,
+        };
+    }
+    let f = far[j] as usize;
+    element_held(
+        head,
+        next,
+        far,
+        closed,
+        load,
+        capacity,
+        elements,
+        links,
+        f,
+        j / 2,
+        depth - 1,
+    )
+}
+
+// Whether the load at every live element is within its capacity: a walk from each sound source.
+pub fn all_held<'a>(
+    head: &'a [u8; 64],
+    next: &'a [u8; 192],
+    far: &'a [u8; 192],
+    closed: &'a [u8; 96],
+    load: &'a [u32; 64],
+    capacity: &'a [u32; 64],
+    sound: &'a [u8; 96],
+    elements: usize,
+    links: usize,
+) -> bool
+    requires { ⌜ Lent (now head) (now next) (now far) (now closed) (now load) (now capacity) elements links ⌝ }
+    requires { ⌜ elements ≤ 64 ⌝ }
+    requires { ⌜ Carries (walkGrid elements links (now far) (now load) (now capacity)) (closedIn (now closed)) (now sound) ⌝ }
+    ensures { λ r. ⌜ r ≡ not (ltb (overPlace (walkGrid elements links (now (far .entry)) (now (load .entry)) (now (capacity .entry))) (closedIn (now (closed .entry))) (now (sound .entry))) elements) ⌝ }
+{
+    let mut s: usize = 0;
+    while s < elements {
+        if sound[s] == 1 {
+            let c = element_held(
+                head,
+                next,
+                far,
+                closed,
+                load,
+                capacity,
+                elements,
+                links,
+                s,
+                links,
+                2 * elements,
+            );
+            if !c.fits {
+                return false;
+            }
+        }
+        s += 1;
+    }
+    true
+}

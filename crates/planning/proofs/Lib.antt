@@ -1,0 +1,9 @@
+pub mod Carried
+pub mod Choices
+pub mod Holdings
+pub mod Joining
+pub mod Listing
+pub mod Merging
+pub mod OneMore
+pub mod Radial
+pub mod Scans
