@@ -25,8 +25,11 @@ module _ (E K : ℕ) (far load capacity : List ℕ) (c : Config) (sound : List �
       → E ≡ placeTo E K far load capacity c sound s → E ≡ placeTo E K far load capacity c sound (s + 1)
   unfolding walkGrid
   kept-on s r h q f p = place-on E K far load capacity c sound s E E (elementCarried (walkGrid E K far load capacity) c (2 * E) s K) h refl p
-      (omega (arith, fitting-over (walkGrid E K far load capacity) c (2 * E) s K r q f,
-      element-over-in (walkGrid E K far load capacity) c (2 * E) s K))
+      (omega (
+        arith,
+        fitting-over (walkGrid E K far load capacity) c (2 * E) s K r q f,
+        element-over-in (walkGrid E K far load capacity) c (2 * E) s K,
+      ))
 
   -- every walk fits
   pub kept-all : (s : ℕ) → s ≡ E → E ≡ placeTo E K far load capacity c sound s

@@ -80,12 +80,12 @@ end-held g c d e via x most k q = go (leb x most) refl
     go true t =
         let h : x ≤ most = leb-true x most t in
         let full : ltb (elementOver g c d e via) (g .E) ≡ false =
-            le-ltb (elementOver g c d e via) (g .E) (omega (arith, over-is, lower-within e x most (g .E) h)) in
+        le-ltb (elementOver g c d e via) (g .E) (omega (arith, over-is, lower-within e x most (g .E) h)) in
         rw (full, load-is) (sym (within x most h))
     go false t =
         let h : most < x = leb-false x most t in
         let short : ltb (elementOver g c d e via) (g .E) ≡ true =
-            lt-ltb (elementOver g c d e via) (g .E) (omega (arith, over-is, lower-above e x most (g .E) h)) in
+        lt-ltb (elementOver g c d e via) (g .E) (omega (arith, over-is, lower-above e x most (g .E) h)) in
         rw short (sym (above x most h))
 
 -- the lowest element found from e onward is no higher than that over a link that leads on
@@ -166,10 +166,10 @@ module _ {head next far closed load capacity : List ℕ} {E K : ℕ} (lent : Len
         let g : Grid = walkGrid E K far load capacity in
         let c : Config = closedIn closed in
         let found : ltb (linkOver g c d (j / 2) (nearAt far j)) E ≡ true =
-            fits-not _ _ (sym (ap (λ (x : Held). x .fits) q) ∙ f) in
+        fits-not _ _ (sym (ap (λ (x : Held). x .fits) q) ∙ f) in
         let lead = end-leads E K far closed load capacity j e via near h n in
         let low : elementOver g c (suc d) e via < E =
-            omega (arith, over-on g c d e via (j / 2) (omega (arith, below)) lead, ltb-true _ E found, ap (linkOver g c d (j / 2)) near) in
+        omega (arith, over-on g c d e via (j / 2) (omega (arith, below)) lead, ltb-true _ E found, ap (linkOver g c d (j / 2)) near) in
         rw (← z, q, found, lt-ltb _ E low)
 
     fits-load : r .fits ≡ true → r .load ≡ linkLoad (walkGrid E K far load capacity) (closedIn closed) d (j / 2) (nearAt far j)

@@ -110,6 +110,7 @@ decimal-digits n = by-tens (λ k. (i : ℕ) → i < length (decimal k) → Digit
     one : (k : ℕ) → k < 10 → (i : ℕ) → i < length (decimal k) → Digit (getD (decimal k) i 0)
     one k h zero lt = rw (decimal-one k h) (omega arith, omega arith)
     one k h (suc i) lt = let e = ap length (decimal-one k h) in absurd (omega (arith, e, lt))
+
     more : (k : ℕ) → 10 ≤ k → ((i : ℕ) → i < length (decimal (k / 10)) → Digit (getD (decimal (k / 10)) i 0)) →
         (i : ℕ) → i < length (decimal k) → Digit (getD (decimal k) i 0)
     more k h tenth i lt = go (ltb i (length (decimal (k / 10)))) refl
@@ -126,6 +127,7 @@ decimal-leading n = by-tens (λ k. 1 ≤ k → ¬ (getD (decimal k) 0 0 ≡ 48))
   where
     one : (k : ℕ) → k < 10 → 1 ≤ k → ¬ (getD (decimal k) 0 0 ≡ 48)
     one k h some e = let e′ : 48 + k ≡ 48 = rw (decimal-one k h) at e in omega (arith, e′, some)
+
     more : (k : ℕ) → 10 ≤ k → (1 ≤ k / 10 → ¬ (getD (decimal (k / 10)) 0 0 ≡ 48)) → 1 ≤ k → ¬ (getD (decimal k) 0 0 ≡ 48)
     more k h tenth some e = tenth (omega (arith, h)) (sym (early-digit k 0 h (decimal-some (k / 10))) ∙ e)
 
@@ -149,5 +151,6 @@ decimal-value n = by-tens (λ k. valueBehind 0 (decimal k) ≡ k) one more n n (
   where
     one : (k : ℕ) → k < 10 → valueBehind 0 (decimal k) ≡ k
     one k h = rw (decimal-one k h) (omega arith)
+
     more : (k : ℕ) → 10 ≤ k → valueBehind 0 (decimal (k / 10)) ≡ k / 10 → valueBehind 0 (decimal k) ≡ k
     more k h tenth = rw (decimal-more k h, value-more 0 (decimal (k / 10)) (48 + k % 10), tenth) (omega arith)

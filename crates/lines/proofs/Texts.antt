@@ -13,7 +13,7 @@ use Rattle.network.specs.declared.refusal.Refusal.{Refusal}
 use Rattle.network.specs.Refusals.{ruleNumber}
 use Rattle.plan_file.specs.declared.plan.Plan.{Plan}
 use Rattle.sums.specs.declared.Sums.{Sums}
-use Rattle.plan_writer.proofs.Stores.{stored-behind, sets-front}
+use Rattle.network.proofs.Stores.{stored-behind, sets-front}
 use Rattle.lines.specs.Lines.{decimal, field, feed, planWord, noneWord, loadWord, stepWord, refusedWord}
 use Rattle.lines.specs.Lines.{stepLine, stepLines, planLine, loadLine, planLines, noneLines, refusedLine, inFront}
 use Rattle.lines.proofs.Digits.{decimal-one, decimal-more, decimal-16, decimal-64}
@@ -24,12 +24,11 @@ Put l i l′ j xs = (j ≡ i + length xs) × (l′ ≡ sets l i xs)
 
 put-behind :
     (l l′ l″ : List ℕ) (i j k : ℕ) (xs ys : List ℕ) → Put l i l′ j xs → Put l′ j l″ k ys → Put l i l″ k (xs ++ ys)
-put-behind l l′ l″ i j k xs ys p q =
-    (
-      q .0 ∙ ap (λ (n : ℕ). n + length ys) (p .0) ∙ add-assoc i (length xs) (length ys) ∙
+put-behind l l′ l″ i j k xs ys p q = (
+  q .0 ∙ ap (λ (n : ℕ). n + length ys) (p .0) ∙ add-assoc i (length xs) (length ys) ∙
       ap (λ (n : ℕ). i + n) (sym (length-append xs ys)),
-      stored-behind l l′ l″ i j xs ys (p .1) (q .1) (p .0),
-    )
+  stored-behind l l′ l″ i j xs ys (p .1) (q .1) (p .0),
+)
 
 -- ---- a text
 

@@ -1,10 +1,11 @@
 -- Document 01, "Printed lines" of the planner, and the line of a refusal.
 -- Assumes nothing.
+use mathlib.Core.Path.{_≡_}
 use mathlib.Core.Bool.{Bool, true, false}
 use mathlib.Core.List.{List, [], _∷_, _++_}
-use Prim.Native.Nat.{ℕ, zero, suc, _+_, _/_, _%_}
+use Prim.Native.Nat.{ℕ, zero, suc, _+_, _/_, _%_, _≤_}
 use lib.Dec.{ltb}
-use lib.ListN.{length, getD, drop}
+use lib.ListN.{length, getD, take, drop}
 use Rattle.network.specs.declared.refusal.Refusal.{Refusal}
 use Rattle.network.specs.Refusals.{ruleNumber}
 use Rattle.plan_file.specs.declared.plan.Plan.{Plan}
@@ -74,3 +75,7 @@ refusedLine r = refusedWord ++ field (ruleNumber (r .rule)) ++ field (r .place) 
 -- the text in front of a buffer, whose later bytes keep their values
 unfoldable pub inFront : List ℕ → List ℕ → List ℕ
 inFront text buffer = text ++ drop (length text) buffer
+
+-- n counts bytes in front of a buffer; the second part follows from the first, and is stated because the proof of `&buffer[..n]` looks for it
+abbrev pub Counted : ℕ → List ℕ → Type 0
+Counted n buffer = (n ≤ length buffer) × (n ≡ length (take n buffer))

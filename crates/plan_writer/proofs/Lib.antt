@@ -1,3 +1,3 @@
-pub mod Stores
+pub mod Files
 pub mod Stands
 pub mod RoundTrip

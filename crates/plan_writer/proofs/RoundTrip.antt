@@ -24,7 +24,7 @@ use Rattle.network_file.specs.NetworkFiles.{networkFile}
 use Rattle.plan_file.specs.PlanFiles.{emptyPlan, withStep, stepsOn, planEndOn, planFile}
 use Rattle.plan_file.specs.Inputs.{planInput, planBehind, bothInput}
 use Rattle.plan_writer.specs.Writing.{stateNumber, planHeadBytes, stepBytes, stepsBytes, endBytes, planBytes, planLength, bufferAfter}
-use Rattle.plan_writer.proofs.Stores.{head-length, step-length, end-length, steps-length, plan-bytes-length}
+use Rattle.plan_writer.proofs.Files.{head-length, step-length, end-length, steps-length, plan-bytes-length}
 use Rattle.plan_writer.proofs.Stands.{Stands, stands-between, stands-left, stands-right, stands-word, number-back}
 use Rattle.records.proofs.Reader.{due-found}
 use Rattle.network_file.proofs.Runs.{records-none, records-suc}

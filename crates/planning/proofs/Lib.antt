@@ -6,4 +6,5 @@ pub mod Listing
 pub mod Merging
 pub mod OneMore
 pub mod Radial
+pub mod Rising
 pub mod Scans

@@ -9,7 +9,7 @@ use lib.Dec.{eqb, ltb}
 use lib.ListN.{length, set}
 use borrow.Author.Tests.{eqb-true, eqb-false, eq-eqb, ne-eqb, ltb-true}
 use native.Mathlib.Omega.{arith}
-use Rattle.feeding.specs.Below.{gate, Member, Rising}
+use Rattle.feeding.specs.Below.{gate, Member}
 use Rattle.feeding.specs.Networks.{Net, Formed, at}
 use Rattle.feeding.specs.Parts.{Config}
 use Rattle.feeding.specs.Restoration.{operable?, operables, restored?}
@@ -22,25 +22,13 @@ use Rattle.planning.specs.Sets.{setOf, setsFrom, passing, operableAt, op
 use Rattle.planning.proofs.Carried.{Carried}
 use Rattle.planning.proofs.Joining.{carried-join, carried-loop, carried-clash, carried-restored}
 use Rattle.planning.proofs.Radial.{radial-opened}
+use Rattle.planning.proofs.Rising.{at-member, at-rising}
 
 -- the switches with the states at the start, but the operable ones open
 unfoldable pub based : Net → Config
 based net l = net .startClosed l && not (operable? net l)
 
--- ---- entries of a rising list
-
-at-member : (xs : List ℕ) (i : ℕ) → i < length xs → Member (at xs i) xs
-unfolding Member
-at-member [] i k = absurd (omega arith)
-at-member (x ∷ xs) zero k = inl refl
-at-member (x ∷ xs) (suc i) k = inr (at-member xs i (omega arith))
-
-at-rising : (xs : List ℕ) → Rising xs → (i j : ℕ) → i < j → j < length xs → at xs i < at xs j
-unfolding Rising
-at-rising [] r i j h k = absurd (omega arith)
-at-rising (x ∷ xs) r i zero h k = absurd (omega arith)
-at-rising (x ∷ xs) r zero (suc j) h k = r .0 (at xs j) (at-member xs j (omega arith))
-at-rising (x ∷ xs) r (suc i) (suc j) h k = at-rising xs (r .1) i j (omega arith) (omega arith)
+-- ---- the switches ahead
 
 -- l is one of the n switches from the place i on
 unfoldable ahead : (op : ℕ → ℕ) (n i l : ℕ) → Bool
@@ -164,39 +152,39 @@ passing-none ok n s h = passing-next ok n s ∙ ap₂ _++_ (h true) (h false)
 -- ---- the search, by its cases
 
 module _ (w : Switching) (total : ℕ) where
-  listed-end : (i served s : ℕ) (p h : List ℕ) → listed w total zero i served s p h ≡ elim (eqb served total) [ true ↦ s ∷ [] | false ↦ [] ]
+  pub listed-end : (i served s : ℕ) (p h : List ℕ) → listed w total zero i served s p h ≡ elim (eqb served total) [ true ↦ s ∷ [] | false ↦ [] ]
   unfolding listed
   listed-end i served s p h = refl
 
-  listed-short : (n i served s : ℕ) (p h : List ℕ) → ltb (served + suc n) total ≡ true → listed w total (suc n) i served s p h ≡ []
+  pub listed-short : (n i served s : ℕ) (p h : List ℕ) → ltb (served + suc n) total ≡ true → listed w total (suc n) i served s p h ≡ []
   unfolding listed
   listed-short n i served s p h k = rw (k, listed)
 
-  listed-next : (n i served s : ℕ) (p h : List ℕ) → ltb (served + suc n) total ≡ false → listed w total (suc n) i served s p h
-      ≡ deciding w (listed w total n (suc i)) i true served (next true s) p h ++ deciding w (listed w total n (suc i)) i false served (next false s) p h
+  pub listed-next : (n i served s : ℕ) (p h : List ℕ) → ltb (served + suc n) total ≡ false → listed w total (suc n) i served s p h
+      ≡ deciding w (listed w total n (suc i)) i true served (2 * s + 1) p h ++ deciding w (listed w total n (suc i)) i false served (2 * s) p h
   unfolding listed
   listed-next n i served s p h k = rw (k, listed)
 
 module _ (w : Switching) (onward : Onward) (i : ℕ) (operate : Bool) (served s : ℕ) (p h : List ℕ) where
-  deciding-open : differ (w .closed i) operate ≡ false → deciding w onward i operate served s p h ≡ onward served s p h
+  pub deciding-open : differ (w .closed i) operate ≡ false → deciding w onward i operate served s p h ≡ onward served s p h
   unfolding deciding
   deciding-open k = rw (k, deciding)
 
-  deciding-closed : differ (w .closed i) operate ≡ true
+  pub deciding-closed : differ (w .closed i) operate ≡ true
       → deciding w onward i operate served s p h ≡ joining onward (rootOf p (w .endA i)) (rootOf p (w .endB i)) served s p h
   unfolding deciding
   deciding-closed k = rw (k, deciding)
 
 module _ (onward : Onward) (x y served s : ℕ) (p h : List ℕ) where
-  joining-loop : eqb x y ≡ true → joining onward x y served s p h ≡ []
+  pub joining-loop : eqb x y ≡ true → joining onward x y served s p h ≡ []
   unfolding joining
   joining-loop k = rw (k, joining)
 
-  joining-clash : eqb x y ≡ false → clash (at h x) (at h y) ≡ true → joining onward x y served s p h ≡ []
+  pub joining-clash : eqb x y ≡ false → clash (at h x) (at h y) ≡ true → joining onward x y served s p h ≡ []
   unfolding joining
   joining-clash k c = rw (k, c, joining)
 
-  joining-on : eqb x y ≡ false → clash (at h x) (at h y) ≡ false → joining onward x y served s p h
+  pub joining-on : eqb x y ≡ false → clash (at h x) (at h y) ≡ false → joining onward x y served s p h
       ≡ onward (served + gate (serves (at h x) (at h y)) 1) s (set p (max x y) (min x y)) (set h (min x y) (together (at h x) (at h y)))
   unfolding joining
   joining-on k c = rw (k, c, joining)
@@ -232,7 +220,6 @@ module _ (net : Net) where
 -- ---- no stop loses a set
 
 module _ (net : Net) (formed : Formed (net .grid)) where
-
   -- the operable switches, and how many they are
   abbrev op : ℕ → ℕ
   op = operableAt net

@@ -135,8 +135,11 @@ module _ (g : Grid) (formed : Formed g) (c : Config) (l : ℕ) (k : l < g .K) (x
   meets z w (inr p) (inr q) = rw (p, q) here
 
   pub put-label : (e : ℕ) → e < g .E → label g (put c l true) e ≡ relabel (max x y) (min x y) (label g c e)
-  put-label e h = omega (arith, label-least g formed (put c l true) _ e (reached (lowered x y (label g c e))),
-      least (label g (put c l true) e) (label-lowest g formed (put c l true) e h .1))
+  put-label e h = omega (
+    arith,
+    label-least g formed (put c l true) _ e (reached (lowered x y (label g c e))),
+    least (label g (put c l true) e) (label-lowest g formed (put c l true) e h .1),
+  )
     where
       reached : Moved x y (label g c e) (relabel (max x y) (min x y) (label g c e))
           → Joined g (put c l true) (relabel (max x y) (min x y) (label g c e)) e

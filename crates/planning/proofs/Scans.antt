@@ -10,7 +10,7 @@ use lib.ListN.{length, length-append}
 use lib.Pow.{pow-pos}
 use borrow.Author.Tests.{eqb-true, eq-eqb, ne-eqb, ltb-true, ltb-false, lt-ltb, le-ltb, leb-true, leb-false, le-leb, lt-leb}
 use native.Mathlib.Omega.{arith}
-use Rattle.feeding.specs.Below.{gate, sumTo, Member, Rising}
+use Rattle.feeding.specs.Below.{gate, sumTo}
 use Rattle.feeding.specs.Loads.{lowestOver}
 use Rattle.feeding.specs.Networks.{Net, at}
 use Rattle.feeding.specs.Plans.{put, flip, setCost}
@@ -23,6 +23,7 @@ use Rattle.planning.specs.declared.Best.{Best}
 use Rattle.planning.specs.Candidates.{radial?, candidate?}
 use Rattle.planning.specs.Choosing.{Choice, nothing, chosen, works?, cheaper, best, planned}
 use Rattle.planning.specs.Sets.{setOf, priceOf, setsFrom, passing, none, keep, scan, switchesOf, cheapestSet, choiceOf}
+use Rattle.planning.proofs.Rising.{at-member, at-rising}
 
 -- ---- one set in the place of another
 
@@ -213,20 +214,6 @@ price-set net op (suc n) rising inside s =
     ∙ sym (put-cost net (setOf op n (s / 2)) (op n) (eqb (s % 2) 1)
     (set-free op n (s / 2) (op n) (λ j k e. let r : op j < op n = rising j n k (omega arith) in omega arith))
     (inside n (omega arith)))
-
--- entries of a rising list
-at-member : (xs : List ℕ) (j : ℕ) → j < length xs → Member (at xs j) xs
-unfolding Member
-at-member [] j k = absurd (omega arith)
-at-member (x ∷ xs) zero k = inl refl
-at-member (x ∷ xs) (suc j) k = inr (at-member xs j (omega arith))
-
-at-rising : (xs : List ℕ) → Rising xs → (i j : ℕ) → i < j → j < length xs → at xs i < at xs j
-unfolding Rising
-at-rising [] r i j h k = absurd (omega arith)
-at-rising (x ∷ xs) r i zero h k = absurd (omega arith)
-at-rising (x ∷ xs) r zero (suc j) h k = r .0 (at xs j) (at-member xs j (omega arith))
-at-rising (x ∷ xs) r (suc i) (suc j) h k = at-rising xs (r .1) i j (omega arith) (omega arith)
 
 pub price-cost : (net : Net) (s : ℕ) → priceOf (λ i. net .cost (at (operables net) i)) (length (operables net)) s ≡ setCost net (switchesOf net s)
 unfolding operables switchesOf

@@ -8,7 +8,14 @@ ghost use Rattle.plan_file.specs.PlanFiles.{emptyPlan};
 ghost use Rattle.printed.specs.Printing.{PlanReach, planWith, inState, formOf};
 
 // The plan with a step for each of the first links that is in the set and whose state at the start is the one given; the step turns it over.
-fn with_steps(plan: Plan, operated: &[u8], closed: &[u8], state: u8, close: bool, links: usize) -> Plan
+fn with_steps(
+    plan: Plan,
+    operated: &[u8],
+    closed: &[u8],
+    state: u8,
+    close: bool,
+    links: usize,
+) -> Plan
     requires { ⌜ PlanReach plan (now operated) (now closed) links ⌝ }
     ensures { λ r. ⌜ r ≡ planWith plan (sweep close (inState (now (operated .entry)) (now (closed .entry)) state) links) ⌝ }
 {

@@ -79,8 +79,12 @@ element-held-cast-sum : (t : ℕ) → element-held-lts.Need-cast-sum (
 element-held-cast-sum t c =
     let a = c .before .args in
     let p = c .before .pre .1 in
-    omega (arith, p .1 .1, load-read (a .elements) (a .links) (a .far .now) (a .load .now) (a .capacity .now) (closedIn (a .closed .now))
-    (a .depth) (a .e) (a .via))
+    omega (
+      arith,
+      p .1 .1,
+      load-read (a .elements) (a .links) (a .far .now) (a .load .now) (a .capacity .now) (closedIn (a .closed .now))
+          (a .depth) (a .e) (a .via),
+    )
 
 element-held-mul-held-within : (t : ℕ) → element-held-lts.Need-mul-held-within (
   held-within-reads.Asked,

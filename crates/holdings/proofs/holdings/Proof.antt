@@ -41,8 +41,7 @@ loop-less c = omega arith
 loop-again : tie.Need-loop-again Inv-loop μ-loop
 loop-again c =
     let args· = c .before .before .before .before .before .before .before .before .before .args in
-    let loop· = c .before .before .before .before .before .loop in
-    (
+    let loop· = c .before .before .before .before .before .loop in (
       omega arith,
       filled-more (args· .live .now) (args· .faulty .now) (args· .needed .now) (loop· .x) _ (loop· .out)
           (omega arith) (loop· .inv .1) (c .held .ensures),

@@ -16,8 +16,8 @@ returns : tie.Need-returns
 returns c =
     let args· = c .before .before .before .before .args in
     serves-both (args· .x) (args· .y)
-        (sym (c .before .before .before .waits .ensures) ∙ c .before .before .if1 .taken)
-        (sym (c .before .waits2 .ensures) ∙ c .if2 .taken)
+    (sym (c .before .before .before .waits .ensures) ∙ c .before .before .if1 .taken)
+    (sym (c .before .waits2 .ensures) ∙ c .if2 .taken)
 
 source-in-requires : tie.Need-source-in-requires
 source-in-requires c κs = search needs
@@ -28,9 +28,9 @@ returns-2 c =
     let waits· = c .before .before .before .before .before .waits in
     let if1· = c .before .before .before .before .if1 in
     serves-second (args· .x) (args· .y)
-        (sym (waits· .ensures) ∙ if1· .taken)
-        (sym (c .before .before .before .waits2 .ensures) ∙ c .before .before .if2 .left)
-        (sym (c .before .source-in .ensures) ∙ c .if3 .taken)
+    (sym (waits· .ensures) ∙ if1· .taken)
+    (sym (c .before .before .before .waits2 .ensures) ∙ c .before .before .if2 .left)
+    (sym (c .before .source-in .ensures) ∙ c .if3 .taken)
 
 returns-3 : tie.Need-returns-3
 returns-3 c =
@@ -38,9 +38,9 @@ returns-3 c =
     let waits· = c .before .before .before .before .before .waits in
     let if1· = c .before .before .before .before .if1 in
     serves-alone (args· .x) (args· .y)
-        (sym (waits· .ensures) ∙ if1· .taken)
-        (sym (c .before .before .before .waits2 .ensures) ∙ c .before .before .if2 .left)
-        (sym (c .before .source-in .ensures) ∙ c .if3 .left)
+    (sym (waits· .ensures) ∙ if1· .taken)
+    (sym (c .before .before .before .waits2 .ensures) ∙ c .before .before .if2 .left)
+    (sym (c .before .source-in .ensures) ∙ c .if3 .left)
 
 waits-requires-3 : tie.Need-waits-requires-3
 waits-requires-3 c κs = search needs
@@ -54,9 +54,9 @@ returns-4 c =
     let waits· = c .before .before .before .before .before .waits in
     let if1· = c .before .before .before .before .if1 in
     serves-first (args· .x) (args· .y)
-        (sym (waits· .ensures) ∙ if1· .left)
-        (sym (c .before .before .before .waits3 .ensures) ∙ c .before .before .if4 .taken)
-        (sym (c .before .source-in2 .ensures) ∙ c .if5 .taken)
+    (sym (waits· .ensures) ∙ if1· .left)
+    (sym (c .before .before .before .waits3 .ensures) ∙ c .before .before .if4 .taken)
+    (sym (c .before .source-in2 .ensures) ∙ c .if5 .taken)
 
 returns-5 : tie.Need-returns-5
 returns-5 c =
@@ -64,16 +64,16 @@ returns-5 c =
     let waits· = c .before .before .before .before .before .waits in
     let if1· = c .before .before .before .before .if1 in
     serves-other (args· .x) (args· .y)
-        (sym (waits· .ensures) ∙ if1· .left)
-        (sym (c .before .before .before .waits3 .ensures) ∙ c .before .before .if4 .taken)
-        (sym (c .before .source-in2 .ensures) ∙ c .if5 .left)
+    (sym (waits· .ensures) ∙ if1· .left)
+    (sym (c .before .before .before .waits3 .ensures) ∙ c .before .before .if4 .taken)
+    (sym (c .before .source-in2 .ensures) ∙ c .if5 .left)
 
 returns-6 : tie.Need-returns-6
 returns-6 c =
     let args· = c .before .before .before .before .args in
     serves-none (args· .x) (args· .y)
-        (sym (c .before .before .before .waits .ensures) ∙ c .before .before .if1 .left)
-        (sym (c .before .waits3 .ensures) ∙ c .if4 .left)
+    (sym (c .before .before .before .waits .ensures) ∙ c .before .before .if1 .left)
+    (sym (c .before .waits3 .ensures) ∙ c .if4 .left)
 
 pub served-by-spec : {M : Type 1} → statement M
 served-by-spec =

@@ -46,18 +46,17 @@ loop-again : tie.Need-loop-again Inv-loop μ-loop
 loop-again c =
     let if1· = c .if1 in
     let args· = c .before .before .before .before .before .before .args in
-    let loop· = c .before .before .before .loop in
-    (
+    let loop· = c .before .before .before .loop in (
       omega arith,
       ⊎-elim (λ w. omega arith) (⊎-elim (λ w. omega arith) (λ w. omega arith)) (if1· .came),
       ⊎-elim
           (λ w. waiting-yes (args· .label .now) (args· .holds .now) (loop· .x) (loop· .sum) _ (loop· .inv .2)
-              (omega arith) (sym (w .2 .ensures) ∙ w .3 .taken) (omega arith))
+          (omega arith) (sym (w .2 .ensures) ∙ w .3 .taken) (omega arith))
           (⊎-elim
           (λ w. waiting-served (args· .label .now) (args· .holds .now) (loop· .x) (loop· .sum) _ (loop· .inv .2)
-              (omega arith) (sym (w .2 .ensures) ∙ w .3 .left) (omega arith))
+          (omega arith) (sym (w .2 .ensures) ∙ w .3 .left) (omega arith))
           (λ w. waiting-member (args· .label .now) (args· .holds .now) (loop· .x) (loop· .sum) _ (loop· .inv .2)
-              (omega arith) (omega arith)))
+          (omega arith) (omega arith)))
           (if1· .came),
     )
 

@@ -5,7 +5,7 @@ use Prim.Native.Nat.{ℕ, _+_, _-_, _*_, _≤_}
 use native.Mathlib.Omega.{arith}
 use lib.ListN.{length}
 use borrow.Author.Needs.{needs}
-use Rattle.plan_writer.proofs.Stores.{stored-length}
+use Rattle.network.proofs.Stores.{stored-length}
 use Rattle.lines.specs.Lines.{stepLines}
 use Rattle.lines.proofs.Texts.{Put, steps-put, steps-start}
 use Rattle.lines.proofs.put_steps.Statement.{statement}

@@ -6,7 +6,7 @@ use Prim.Native.Nat.{ℕ, _+_, _-_, _≤_}
 use native.Mathlib.Omega.{arith}
 use lib.ListN.{length, take}
 use lib.Seq.{sets, take-all}
-use Rattle.plan_writer.proofs.Stores.{stored-length}
+use Rattle.network.proofs.Stores.{stored-length}
 use Rattle.lines.proofs.Texts.{text-more}
 use Rattle.lines.proofs.put_text.Statement.{statement}
 use Rattle.lines.proofs.put_text.Tie as tie

@@ -4,7 +4,7 @@ use mathlib.Core.Path.{refl}
 use mathlib.Core.List.{_++_}
 use borrow.Author.Needs.{needs}
 use Rattle.plan_writer.specs.Writing.{number, planHeadBytes}
-use Rattle.plan_writer.proofs.Stores.{stored-behind}
+use Rattle.network.proofs.Stores.{stored-behind}
 use Rattle.plan_writer.proofs.put_head.Statement.{statement}
 use Rattle.plan_writer.proofs.put_head.Tie as tie
 

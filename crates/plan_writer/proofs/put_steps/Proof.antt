@@ -7,7 +7,8 @@ use lib.ListN.{length}
 use lib.Seq.{sets}
 use borrow.Author.Needs.{needs}
 use Rattle.plan_writer.specs.Writing.{stepsBytes}
-use Rattle.plan_writer.proofs.Stores.{steps-none, step-stored, stored-length}
+use Rattle.network.proofs.Stores.{stored-length}
+use Rattle.plan_writer.proofs.Files.{steps-none, step-stored}
 use Rattle.plan_writer.proofs.put_steps.Statement.{statement}
 use Rattle.plan_writer.proofs.put_steps.Tie as tie
 

@@ -5,7 +5,7 @@ use Prim.Native.Nat.{ℕ, _-_}
 use native.Mathlib.Omega.{arith}
 use borrow.Author.Needs.{needs}
 use Rattle.plan_writer.specs.Writing.{planLength}
-use Rattle.plan_writer.proofs.Stores.{plan-stored, too-short, long-enough}
+use Rattle.plan_writer.proofs.Files.{plan-stored, too-short, long-enough}
 use Rattle.plan_writer.proofs.write_plan.Statement.{statement}
 use Rattle.plan_writer.proofs.write_plan.Tie as tie
 

@@ -1,43 +1,21 @@
--- What a run of stores leaves, over any list: stores one behind the other are the stores of the bytes strung together, and stores from the front on are the bytes themselves before the rest. By these the records that the writer puts down are the plan's file.
+-- The records that the writer puts down are the plan's file: stores one behind the other from the front on are the bytes before the rest.
 -- Assumes nothing.
 use mathlib.Core.Path.{_≡_, refl, ap, sym, _∙_}
 use mathlib.Core.Bool.{Bool, true, false}
-use mathlib.Core.List.{List, [], _∷_, _++_}
+use mathlib.Core.List.{List, [], _++_}
 use Prim.Native.Nat.{ℕ, zero, suc, _+_, _-_, _*_, _<_, _≤_}
-use native.Mathlib.Nat.{add-zero, add-suc, suc-add, zero-add}
+use native.Mathlib.Nat.{zero-add}
 use native.Mathlib.Numerals.{add-one}
 use native.Mathlib.Omega.{arith}
-use lib.ListN.{length, getD, drop, set, length-append}
-use lib.Seq.{sets, sets-eq, length-sets}
+use lib.ListN.{length, getD, length-append}
+use lib.Seq.{sets}
 use lib.Dec.{ltb}
 use borrow.Author.Tests.{lt-ltb, le-ltb}
 use Rattle.network.specs.declared.refusal.Rule.the-variants.{BufferTooShort}
+use Rattle.network.proofs.Stores.{stored-behind, sets-front}
 use Rattle.plan_file.specs.declared.plan.Plan.{Plan}
 use Rattle.plan_writer.specs.declared.Written.the-variants.{Bytes, Refused}
 use Rattle.plan_writer.specs.Writing.{planHeadBytes, stepBytes, stepsBytes, endBytes, planBytes, planLength, written, bufferAfter}
-
--- ---- stores
-
-pub sets-append : (xs ys l : List ℕ) (i : ℕ) → sets l i (xs ++ ys) ≡ sets (sets l i xs) (i + length xs) ys
-sets-append [] ys l i = ap (λ (k : ℕ). sets l k ys) (sym (add-zero i))
-sets-append (x ∷ xs) ys l i =
-    sets-append xs ys (set l i x) (suc i) ∙
-    ap (λ (k : ℕ). sets (sets (set l i x) (suc i) xs) k ys) (suc-add i (length xs) ∙ sym (add-suc i (length xs)))
-
--- a second run of stores behind the first
-pub stored-behind :
-    (l l′ l″ : List ℕ) (i j : ℕ) (xs ys : List ℕ) →
-    l′ ≡ sets l i xs →
-    l″ ≡ sets l′ j ys →
-    j ≡ i + length xs →
-    l″ ≡ sets l i (xs ++ ys)
-stored-behind l l′ l″ i j xs ys e e′ h = e′ ∙ rw (e, h) (sym (sets-append xs ys l i))
-
-pub stored-length : (l l′ : List ℕ) (i : ℕ) (xs : List ℕ) → l′ ≡ sets l i xs → length l′ ≡ length l
-stored-length l l′ i xs e = ap length e ∙ length-sets l i xs
-
-pub sets-front : (xs l : List ℕ) → length xs ≤ length l → sets l 0 xs ≡ xs ++ drop (length xs) l
-sets-front xs l h = sets-eq xs l 0 (omega arith) ∙ rw zero-add
 
 -- ---- records
 

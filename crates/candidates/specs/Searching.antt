@@ -1,0 +1,42 @@
+-- What the functions of this crate compute over arrays, in the words of `planning`.
+-- Assumes nothing.
+use mathlib.Core.Path.{_≡_}
+use mathlib.Core.Bool.{Bool}
+use mathlib.Core.List.{List}
+use Prim.Native.Nat.{ℕ, _+_, _-_, _^_, _<_, _≤_}
+use lib.ListN.{length}
+use Rattle.feeding.specs.Networks.{Net, at, isIn}
+use Rattle.parts.specs.Labelling.{Falls}
+use Rattle.planning.specs.Sets.{passing, setsFrom, switchesOf, operableCount}
+use Rattle.planning.specs.Candidates.{Switching, candidate?, listed, deciding}
+
+-- the switches that arrays hold
+unfoldable pub switching : (from to closed : List ℕ) → Switching
+switching from to closed = record { endA = at from; endB = at to; closed = isIn closed }
+
+-- the sets that are listed from switch i of `count` on, and those with switch i decided
+unfoldable pub listedIn : (from to closed : List ℕ) (total count i served s : ℕ) (parent holds : List ℕ) → List ℕ
+listedIn from to closed total count i served s parent holds = listed (switching from to closed) total (count - i) i served s parent holds
+
+unfoldable pub decidedIn : (from to closed : List ℕ) (total count i : ℕ) (operate : Bool) (served s : ℕ) (parent holds : List ℕ) → List ℕ
+decidedIn from to closed total count i operate served s parent holds =
+    deciding (switching from to closed) (listed (switching from to closed) total (count - (i + 1)) (i + 1)) i operate served s parent holds
+
+-- all sets that are candidates, in the set order
+unfoldable pub candidatesOf : Net → List ℕ
+candidatesOf net = passing (λ s. candidate? net (switchesOf net s)) (setsFrom (operableCount net) 0)
+
+-- a search stands at switch i of at most 12: the ends are elements, parents fall, and the numbers fit
+pub record Searches (from to closed parent holds : List ℕ) (count i served s : ℕ) : Type 0 where
+  pub fit : count ≤ 12
+  pub reached : i ≤ count
+  pub from-long : length from ≡ 16
+  pub to-long : length to ≡ 16
+  pub closed-long : length closed ≡ 16
+  pub parent-long : length parent ≡ 64
+  pub holds-long : length holds ≡ 64
+  pub from-in : (j : ℕ) → j < count → at from j < 64
+  pub to-in : (j : ℕ) → j < count → at to j < 64
+  pub falls : Falls parent
+  pub served-few : served ≤ i
+  pub set-in : s < 2 ^ i

@@ -1,0 +1,4 @@
+pub mod Cases
+pub mod Operating
+pub mod Promises
+pub mod Solving

@@ -1,0 +1,204 @@
+-- The cheapest set, a number, gives the planner's outcome: it is the set that document 01 picks, and its arrays give its printed form.
+-- Assumes nothing.
+use mathlib.Core.Path.{_≡_, refl, sym, ap, ap₂, _∙_, subst}
+use mathlib.Core.Bool.{Bool, true, false, not, cond, _&&_, false≢true}
+use mathlib.Core.List.{List, [], _∷_}
+use mathlib.Core.Logic.{inl, inr}
+use Prim.Native.Nat.{ℕ, zero, suc, _/_, _%_, _≤_, _<_}
+use native.Mathlib.Omega.{arith}
+use lib.Dec.{eqb}
+use lib.ListN.{length}
+use borrow.Author.Tests.{eqb-true, lt-ltb, le-ltb}
+use Rattle.network.specs.declared.Network.{Network}
+use Rattle.network_file.specs.Accepted.{WellFormed}
+use Rattle.feeding.specs.Acceptance.{Starts}
+use Rattle.feeding.specs.Below.{gate, Member, bits}
+use Rattle.feeding.specs.Networks.{Net, gridOf, netOf, at, isIn}
+use Rattle.feeding.specs.Parts.{Config, closedIn}
+use Rattle.feeding.specs.Plans.{Step, put, run, costOf, printedForm, flip, setCost}
+use Rattle.feeding.specs.Restoration.{operable?, operables, restorable?, fedLoad, darkLoad, lostLoad}
+use Rattle.feeding.proofs.Bits.{at-bits}
+use Rattle.feeding.proofs.Lows.{those-out}
+use Rattle.feeding.proofs.Printed.{printed-cost, printed-run}
+use Rattle.feeding.proofs.States.{live-same}
+use Rattle.feeding.proofs.Sums.{sumTo-ext}
+use Rattle.feeding.proofs.Views.{formed-net}
+use Rattle.plan_file.specs.declared.plan.Plan.{Plan}
+use Rattle.plan_file.specs.PlanFiles.{emptyPlan}
+use Rattle.planning.specs.declared.Best.{Best}
+use Rattle.planning.specs.Choosing.{nothing, chosen, planned, Promised}
+use Rattle.planning.specs.Sets.{setOf, switchesOf, cheapestSet, choiceOf}
+use Rattle.planning.proofs.Choices.{PromisedChoice, planned-promised}
+use Rattle.planning.proofs.Scans.{choice-planned, cheapest-fair}
+use Rattle.printed.specs.Printing.{planWith, formOf}
+use Rattle.printed.proofs.Steps.{with-count, empty-steps, form-printed}
+use Rattle.sets.specs.Sets.{oneOf}
+use Rattle.sums.specs.declared.Sums.{Sums}
+use Rattle.sums.specs.Sums.{sumsAfter}
+use Rattle.planner.specs.declared.Outcome.{Outcome}
+use Rattle.planner.specs.declared.Reply.the-variants as Reply·
+use Rattle.planner.specs.declared.Cheapest.the-variants as Cheapest·
+use Rattle.planner.specs.Promises.{CheapestIn}
+use Rattle.planner.specs.Replies.{plannedBy, unplanned, outcomeFrom, outcomeOf}
+
+-- ---- the set that a number writes has links of the network only
+
+entry-member : (xs : List ℕ) (j : ℕ) → j < length xs → Member (at xs j) xs
+unfolding Member
+entry-member [] j k = absurd (omega arith)
+entry-member (x ∷ xs) zero k = inl refl
+entry-member (x ∷ xs) (suc j) k = inr (entry-member xs j (omega arith))
+
+set-inside : (op : ℕ → ℕ) (m top s l : ℕ) → ((j : ℕ) → j < m → op j < top) → setOf op m s l ≡ true → l < top
+unfolding setOf put
+set-inside op zero top s l h d = absurd (false≢true d)
+set-inside op (suc m) top s l h d = go (set-inside op m top (s / 2) l (λ j k. h j (omega arith))) (eqb l (op m)) refl d
+  where
+    go : (setOf op m (s / 2) l ≡ true → l < top) → (t : Bool) → eqb l (op m) ≡ t → cond t (eqb (s % 2) 1) (setOf op m (s / 2) l) ≡ true → l < top
+    go ih true t e = rw (eqb-true l (op m) t) (h m (omega arith))
+    go ih false t e = ih e
+
+pub switches-inside : (net : Net) (s l : ℕ) → switchesOf net s l ≡ true → l < net .grid .K
+unfolding switchesOf operables
+switches-inside net s l d =
+    set-inside (at (operables net)) (length (operables net)) (net .grid .K) s l
+    (λ j k. those-out (net .grid .K) (operable? net) _ (entry-member (operables net) j k) .0) d
+
+-- ---- what a cost stands for
+
+found-chosen : (net : Net) (b : Best) → b .cost < 18446744073709551615 → choiceOf net b ≡ chosen (switchesOf net (b .set))
+unfolding choiceOf
+found-chosen net b h = rw (lt-ltb (b .cost) 18446744073709551615 h, choiceOf)
+
+none-nothing : (net : Net) (b : Best) → 18446744073709551615 ≤ b .cost → choiceOf net b ≡ nothing
+unfolding choiceOf
+none-nothing net b h = rw (le-ltb (b .cost) 18446744073709551615 h, choiceOf)
+
+module _ (n : Network) (well : WellFormed n) where
+  few : netOf n .grid .K ≤ 96
+  unfolding netOf gridOf
+  few = well .links-fit
+
+  small : (l : ℕ) → l < netOf n .grid .K → netOf n .cost l < 65536
+  unfolding netOf gridOf
+  small = well .cost-in
+
+  module _ (best : Best) (is : best ≡ cheapestSet (netOf n)) where
+    best-planned : choiceOf (netOf n) best ≡ planned (netOf n)
+    best-planned = ap (choiceOf (netOf n)) is ∙ choice-planned (netOf n) few small
+
+    planned-found : best .cost < 18446744073709551615 → planned (netOf n) ≡ chosen (switchesOf (netOf n) (best .set))
+    planned-found h = sym best-planned ∙ found-chosen (netOf n) best h
+
+    planned-nothing : 18446744073709551615 ≤ best .cost → planned (netOf n) ≡ nothing
+    planned-nothing h = sym best-planned ∙ none-nothing (netOf n) best h
+
+    best-cost : best .cost < 18446744073709551615 → best .cost ≡ setCost (netOf n) (switchesOf (netOf n) (best .set))
+    best-cost h =
+        subst (λ (b : Best). b .cost ≡ setCost (netOf n) (switchesOf (netOf n) (b .set))) (sym is)
+        (cheapest-fair (netOf n) few small (subst (λ (b : Best). b .cost < 18446744073709551615) is h))
+
+    -- the cost found is that of the printed plan
+    pub solved-cost : best .cost < 18446744073709551615
+        → costOf (netOf n) (printedForm (netOf n) (switchesOf (netOf n) (best .set))) ≡ best .cost
+    solved-cost h =
+        printed-cost (netOf n) (switchesOf (netOf n) (best .set)) (switches-inside (netOf n) (best .set)) ∙ sym (best-cost h)
+
+    pub solved-plan : best .cost < 18446744073709551615
+        → outcomeOf n ≡ plannedBy n (printedForm (netOf n) (switchesOf (netOf n) (best .set)))
+    unfolding outcomeOf outcomeFrom
+    solved-plan h = ap (outcomeFrom n) (planned-found h)
+
+    pub solved-none : 18446744073709551615 ≤ best .cost → outcomeOf n ≡ unplanned n
+    unfolding outcomeOf outcomeFrom
+    solved-none h = ap (outcomeFrom n) (planned-nothing h)
+
+    -- ---- the cheapest cost
+
+    pub cheapest-found : Starts (netOf n) → best .cost < 18446744073709551615 → CheapestIn (netOf n) (Cheapest·.Cost (best .cost))
+    cheapest-found starts h = record {
+      plan = printedForm (netOf n) (switchesOf (netOf n) (best .set));
+      valid = promise .valid;
+      own = solved-cost h;
+      least = λ q v. omega (arith, best-cost h, promise .every q v .at-least);
+    }
+      where
+        promise : Promised (netOf n) (printedForm (netOf n) (switchesOf (netOf n) (best .set))) (setCost (netOf n) (switchesOf (netOf n) (best .set)))
+        promise = subst (PromisedChoice (netOf n)) (planned-found h) (planned-promised (netOf n) (formed-net n well) (starts .safe))
+
+    pub cheapest-none : Starts (netOf n) → 18446744073709551615 ≤ best .cost → CheapestIn (netOf n) Cheapest·.NoPlan
+    cheapest-none starts h =
+        subst (PromisedChoice (netOf n)) (planned-nothing h) (planned-promised (netOf n) (formed-net n well) (starts .safe))
+
+-- ---- sums see the states of the network's links only
+
+pub sums-same : (net : Net) (c c′ : Config) → ((l : ℕ) → l < net .grid .K → c l ≡ c′ l) → sumsAfter net c ≡ sumsAfter net c′
+unfolding sumsAfter fedLoad darkLoad
+sums-same net c c′ same =
+    ap₂ (λ (f d : ℕ). record { fed = f; dark = d; lost = lostLoad net })
+    (sumTo-ext (net .grid .E) _ _ (λ e _. ap (λ (b : Bool). gate b (net .grid .load e)) (live-same (net .grid) c c′ same e)))
+    (sumTo-ext (net .grid .E) _ _
+    (λ e _. ap (λ (b : Bool). gate (restorable? net e && not b) (net .grid .load e)) (live-same (net .grid) c c′ same e)))
+
+-- ---- the plan of arrays
+
+-- a plan, its cost and sums, each that of the list of steps q
+together : (n : Network) (q : List Step) (plan : Plan) (cost : ℕ) (sums : Sums) → plan ≡ planWith emptyPlan q → cost ≡ costOf (netOf n) q
+    → sums ≡ sumsAfter (netOf n) (run (netOf n .startClosed) q)
+    → _≡_ {A = Outcome} (record { reply = Reply·.Plan (record { steps = plan .steps; cost = cost; sums = sums }); plan = plan }) (plannedBy n q)
+unfolding plannedBy
+together n q plan cost sums p c s = rw (p, c, s, count)
+  where
+    count : planWith emptyPlan q .steps ≡ length q
+    count = omega (arith, with-count emptyPlan q, empty-steps)
+
+module _ (n : Network) (well : WellFormed n) (start : List ℕ) (start-is : start ≡ bits 96 (n .links) (oneOf (n .form) 0 2)) where
+  links-are : netOf n .grid .K ≡ n .links
+  unfolding netOf gridOf
+  links-are = refl
+
+  start-at : (l : ℕ) → l < netOf n .grid .K → at start l ≡ gate (netOf n .startClosed l) 1
+  unfolding netOf gridOf oneOf
+  start-at l k =
+      ap (λ (xs : List ℕ). at xs l) start-is
+      ∙ at-bits 96 (n .links) _ l (omega (arith, well .links-fit))
+      ∙ rw (lt-ltb l (n .links) k)
+
+  start-closed : (l : ℕ) → l < netOf n .grid .K → closedIn start l ≡ netOf n .startClosed l
+  start-closed l k = ap (λ (x : ℕ). eqb x 1) (start-at l k) ∙ go (netOf n .startClosed l)
+    where
+      go : (b : Bool) → eqb (gate b 1) 1 ≡ b
+      go true = refl
+      go false = refl
+
+  pub unplanned-is : (sums : Sums) → sums ≡ sumsAfter (netOf n) (closedIn start) → (plan : Plan) → plan ≡ emptyPlan
+      → _≡_ {A = Outcome} (record { reply = Reply·.NoPlan sums; plan = plan }) (unplanned n)
+  unfolding unplanned
+  unplanned-is sums e plan f =
+      ap₂ (λ (l : Sums) (p : Plan). record { reply = Reply·.NoPlan l; plan = p })
+      (e ∙ sums-same (netOf n) (closedIn start) (netOf n .startClosed) start-closed) f
+
+  pub planned-is : (set : ℕ) (operated states : List ℕ)
+      → ((l : ℕ) → l < n .links → isIn operated l ≡ switchesOf (netOf n) set l)
+      → ((l : ℕ) → l < n .links → isIn states l ≡ flip (netOf n .startClosed) (switchesOf (netOf n) set) l)
+      → (plan : Plan) (sums : Sums) (cost : ℕ)
+      → plan ≡ planWith emptyPlan (formOf operated start (n .links))
+      → sums ≡ sumsAfter (netOf n) (closedIn states)
+      → cost ≡ costOf (netOf n) (printedForm (netOf n) (switchesOf (netOf n) set))
+      → _≡_ {A = Outcome} (record { reply = Reply·.Plan (record { steps = plan .steps; cost = cost; sums = sums }); plan = plan })
+      (plannedBy n (printedForm (netOf n) (switchesOf (netOf n) set)))
+  planned-is set operated states in-set in-states plan sums cost plan-made sums-made cost-made =
+      together n (printedForm (netOf n) (switchesOf (netOf n) set)) plan cost sums (plan-made ∙ ap (planWith emptyPlan) form) cost-made
+      (sums-made ∙ sums-same (netOf n) (closedIn states) (flip (netOf n .startClosed) D) after
+      ∙ ap (sumsAfter (netOf n)) (sym (printed-run (netOf n) D (switches-inside (netOf n) set))))
+    where
+      D : ℕ → Bool
+      D = switchesOf (netOf n) set
+
+      after : (l : ℕ) → l < netOf n .grid .K → closedIn states l ≡ flip (netOf n .startClosed) D l
+      after l k = in-states l (omega (arith, links-are))
+
+      form : formOf operated start (n .links) ≡ printedForm (netOf n) D
+      form =
+          ap (formOf operated start) (sym links-are)
+          ∙ form-printed (netOf n) D operated start (λ l k. in-set l (omega (arith, links-are))) start-at
