@@ -3,7 +3,7 @@
 use mathlib.Core.Path.{_≡_, refl, sym, ap, ap₂, _∙_}
 use mathlib.Core.Bool.{Bool, true, false, not, _&&_, and-true}
 use mathlib.Core.List.{List, [], _∷_}
-use Prim.Native.Nat.{ℕ, zero, suc, _*_, _<_, _≤_}
+use Prim.Native.Nat.{ℕ, zero, suc, _<_, _≤_}
 use native.Mathlib.Omega.{arith}
 use lib.Dec.{ltb}
 use lib.ListN.{length, take, replicate, length-replicate}
@@ -14,19 +14,18 @@ use Rattle.network_file.specs.Accepted.{WellFormed}
 use Rattle.feeding.specs.Acceptance.{Starts}
 use Rattle.feeding.specs.Below.{bits}
 use Rattle.feeding.specs.Loads.{lowestOver}
-use Rattle.feeding.specs.Networks.{Grid, Formed, netOf, gridOf, at, isIn}
-use Rattle.feeding.specs.Parts.{Config, closedIn, sound?}
+use Rattle.feeding.specs.Networks.{Grid, netOf, gridOf, at, isIn}
+use Rattle.feeding.specs.Parts.{Config, closedIn}
 use Rattle.feeding.specs.Plans.{flip, setCost}
 use Rattle.feeding.specs.Restoration.{operable?, operables}
 use Rattle.feeding.specs.Safety.{treePlace}
-use Rattle.feeding.proofs.Below.{orElse, and-left}
-use Rattle.feeding.proofs.Lows.{leastTo-ext}
-use Rattle.feeding.proofs.States.{alike-self, elementOver-alike}
+use Rattle.feeding.proofs.Below.{and-left}
+use Rattle.feeding.proofs.States.{over-same}
 use Rattle.feeding.proofs.Views.{formed-net}
+use Rattle.safety.proofs.Networks.{checked}
 use Rattle.ends.specs.declared.OwnEnds.{OwnEnds}
-use Rattle.ends.specs.Ends.{TwoEnds, ownEnds}
+use Rattle.ends.specs.Ends.{ownEnds}
 use Rattle.loads.specs.Walks.{walkGrid}
-use Rattle.loads.proofs.Same as Same
 use Rattle.sets.specs.Sets.{oneOf, butNot, members}
 use Rattle.safety.specs.Checks.{Checked}
 use Rattle.safety.proofs.Steps.{lists-lent, trees-carried}
@@ -71,47 +70,10 @@ pub states-long : (base link closed : List ℕ) (count s : ℕ) → length (stat
 unfolding statesIn
 states-long base link closed count s = length-states (at link) (at closed) count s base
 
--- ---- a configuration by its links below K
-
-over-same : (g : Grid) → Formed g → (c c′ : Config) → ((l : ℕ) → l < g .K → c l ≡ c′ l) → lowestOver g c ≡ lowestOver g c′
-unfolding lowestOver
-over-same g formed c c′ same = leastTo-ext (g .E) (g .E) _ _ (λ s k. ap (λ (x : ℕ). orElse (g .E) (sound? g s) x)
-    (elementOver-alike g g formed (alike-self g) c c′ same (2 * g .E) s (g .K) k))
-
 -- a radial configuration consists of trees
 radial-trees : (g : Grid) (c : Config) → radial? g c ≡ true → ltb (treePlace g c) (g .E) ≡ false
 unfolding radial?
 radial-trees g c h = not-true _ (and-left (not (ltb (treePlace g c) (g .E))) _ h)
-
--- ---- what is lent
-
-module _ (n : Network) (w : WellFormed n) where
-  pub two-ends : TwoEnds (n .from) (n .to) (n .links)
-  unfolding netOf
-  two-ends =
-      Same.two-ends (n .elements) (n .links) (n .load) (n .capacity) (n .flags) (n .from) (n .to) (formed-net n w) (w .elements-fit) (w .links-fit)
-      (omega (arith, w .from-long, w .links-fit)) (omega (arith, w .to-long, w .links-fit))
-
-  -- any states
-  checked : (own : OwnEnds) (states : List ℕ) → own ≡ ownEnds (at (n .from)) (at (n .to)) (n .links) → length states ≡ 96
-      → Checked (n .load) (n .capacity) (n .flags) (n .from) (n .to) (own .head) (own .next) (own .far) states (n .elements) (n .links)
-  unfolding netOf
-  checked own states o long =
-      record {
-        elements-fit = w .elements-fit;
-        links-fit = w .links-fit;
-        load-long = omega (arith, w .load-long, w .elements-fit);
-        capacity-long = omega (arith, w .capacity-long, w .elements-fit);
-        flags-long = omega (arith, w .flags-long, w .elements-fit);
-        from-long = omega (arith, w .from-long, w .links-fit);
-        to-long = omega (arith, w .to-long, w .links-fit);
-        closed-long = omega (arith, w .links-fit);
-        load-in = w .load-in;
-        formed = formed-net n w;
-        head-is = ap (λ (x : OwnEnds). x .head) o;
-        next-is = ap (λ (x : OwnEnds). x .next) o;
-        far-is = ap (λ (x : OwnEnds). x .far) o;
-      }
 
 -- what the calls return, before the scan
 pub record Gathered (n : Network) (operable : List ℕ) (sw : Switches) (found : List ℕ) (k : ℕ) (start base sound : List ℕ) (own : OwnEnds)

@@ -103,7 +103,7 @@ module _ (g : Grid) (c c′ : Config) (same : (l : ℕ) → l < g .K → c l ≡
       ap (λ (b : Bool). sound? g t && (not (eqb s t) && b)) (joined-same t s)))
 
 module _ (g : Grid) (formed : Formed g) (c c′ : Config) (same : (l : ℕ) → l < g .K → c l ≡ c′ l) where
-  over-same : lowestOver g c ≡ lowestOver g c′
+  pub over-same : lowestOver g c ≡ lowestOver g c′
   unfolding lowestOver
   over-same = leastTo-ext (g .E) (g .E) _ _ (λ s k. ap (λ (x : ℕ). orElse (g .E) (sound? g s) x)
       (elementOver-alike g g formed (alike-self g) c c′ same (2 * g .E) s (g .K) k))

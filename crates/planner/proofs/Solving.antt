@@ -2,8 +2,7 @@
 -- Assumes nothing.
 use mathlib.Core.Path.{_≡_, refl, sym, ap, ap₂, _∙_, subst}
 use mathlib.Core.Bool.{Bool, true, false, not, cond, _&&_, false≢true}
-use mathlib.Core.List.{List, [], _∷_}
-use mathlib.Core.Logic.{inl, inr}
+use mathlib.Core.List.{List}
 use Prim.Native.Nat.{ℕ, zero, suc, _/_, _%_, _≤_, _<_}
 use native.Mathlib.Omega.{arith}
 use lib.Dec.{eqb}
@@ -12,7 +11,7 @@ use borrow.Author.Tests.{eqb-true, lt-ltb, le-ltb}
 use Rattle.network.specs.declared.Network.{Network}
 use Rattle.network_file.specs.Accepted.{WellFormed}
 use Rattle.feeding.specs.Acceptance.{Starts}
-use Rattle.feeding.specs.Below.{gate, Member, bits}
+use Rattle.feeding.specs.Below.{gate, bits}
 use Rattle.feeding.specs.Networks.{Net, gridOf, netOf, at, isIn}
 use Rattle.feeding.specs.Parts.{Config, closedIn}
 use Rattle.feeding.specs.Plans.{Step, put, run, costOf, printedForm, flip, setCost}
@@ -29,6 +28,7 @@ use Rattle.planning.specs.declared.Best.{Best}
 use Rattle.planning.specs.Choosing.{nothing, chosen, planned, Promised}
 use Rattle.planning.specs.Sets.{setOf, switchesOf, cheapestSet, choiceOf}
 use Rattle.planning.proofs.Choices.{PromisedChoice, planned-promised}
+use Rattle.planning.proofs.Rising.{at-member}
 use Rattle.planning.proofs.Scans.{choice-planned, cheapest-fair}
 use Rattle.printed.specs.Printing.{planWith, formOf}
 use Rattle.printed.proofs.Steps.{with-count, empty-steps, form-printed}
@@ -43,12 +43,6 @@ use Rattle.planner.specs.Replies.{plannedBy, unplanned, outcomeFrom, out
 
 -- ---- the set that a number writes has links of the network only
 
-entry-member : (xs : List ℕ) (j : ℕ) → j < length xs → Member (at xs j) xs
-unfolding Member
-entry-member [] j k = absurd (omega arith)
-entry-member (x ∷ xs) zero k = inl refl
-entry-member (x ∷ xs) (suc j) k = inr (entry-member xs j (omega arith))
-
 set-inside : (op : ℕ → ℕ) (m top s l : ℕ) → ((j : ℕ) → j < m → op j < top) → setOf op m s l ≡ true → l < top
 unfolding setOf put
 set-inside op zero top s l h d = absurd (false≢true d)
@@ -62,7 +56,7 @@ pub switches-inside : (net : Net) (s l : ℕ) → switchesOf net s l ≡ true �
 unfolding switchesOf operables
 switches-inside net s l d =
     set-inside (at (operables net)) (length (operables net)) (net .grid .K) s l
-    (λ j k. those-out (net .grid .K) (operable? net) _ (entry-member (operables net) j k) .0) d
+    (λ j k. those-out (net .grid .K) (operable? net) _ (at-member (operables net) j k) .0) d
 
 -- ---- what a cost stands for
 

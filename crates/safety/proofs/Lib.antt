@@ -1,2 +1,3 @@
+pub mod Networks
 pub mod Places
 pub mod Steps

@@ -2,7 +2,9 @@
 -- Assumes nothing.
 use mathlib.Core.Path.{_∙_}
 use borrow.Author.Needs.{needs}
-use Rattle.acceptance.proofs.Start.{two-ends, checked, start-is}
+use Rattle.restoration.proofs.Reach.{bits-long}
+use Rattle.safety.proofs.Networks.{two-ends, checked}
+use Rattle.acceptance.proofs.Start.{start-is}
 use Rattle.acceptance.proofs.start_safety.Statement.{statement}
 use Rattle.acceptance.proofs.start_safety.Tie as tie
 
@@ -57,7 +59,7 @@ check-requires c κs =
     let pre· = c .before .before .before .before .before .before .before .before .before .before .before .before .before .before .before .before .before .before .before .before .before .before .before .pre in
     let own-ends· = c .before .before .before .before .before .before .before .before .before .before .before .before .before .before .own-ends in
     let members-of· = c .before .before .before .before .before .before .before .before .before .members-of in
-    checked (args· .net) pre· (own-ends· .result) (members-of· .result) (own-ends· .ensures) (members-of· .ensures)
+    checked (args· .net) pre· (own-ends· .result) (members-of· .result) (own-ends· .ensures) (bits-long _ _ _ (members-of· .ensures))
 
 returns : tie.Need-returns
 returns c =

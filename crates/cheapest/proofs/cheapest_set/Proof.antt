@@ -1,6 +1,7 @@
 -- `cheapest_set` gives the first cheapest of all sets that work: its calls gather the candidates and the lists that the scan needs.
 -- Assumes nothing.
-use Rattle.cheapest.proofs.Works.{two-ends, switches-asked, switches-are, gathered, scanning, cheapest-is}
+use Rattle.safety.proofs.Networks.{two-ends}
+use Rattle.cheapest.proofs.Works.{switches-asked, switches-are, gathered, scanning, cheapest-is}
 use borrow.Author.Needs.{needs}
 use Rattle.cheapest.proofs.cheapest_set.Statement.{statement}
 use Rattle.cheapest.proofs.cheapest_set.Tie as tie

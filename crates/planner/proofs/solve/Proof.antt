@@ -1,6 +1,5 @@
 -- The cheapest set gives the outcome: the plan of that set, or none.
 -- Assumes nothing.
-use native.Mathlib.Omega.{arith}
 use mathlib.Core.Path.{sym, _∙_}
 use borrow.Author.Tests.{ltb-true, ltb-false}
 use Rattle.planner.proofs.Solving.{solved-cost, solved-plan, solved-none}

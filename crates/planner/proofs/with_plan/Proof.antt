@@ -1,6 +1,5 @@
 -- The plan of a set: its states, its steps in the printed form, and the loads after it.
 -- Assumes nothing.
-use native.Mathlib.Omega.{arith}
 use Rattle.cheapest.proofs.Works.{switches-asked}
 use Rattle.planner.proofs.Operating.{set-reach, states-long, operated-plan}
 use borrow.Author.Needs.{needs}
