@@ -1,8 +1,7 @@
 #!/usr/bin/env python3
-"""Writes the network files of this folder, from the tables of document 01, "Tried networks": examples/make.py [FOLDER]."""
+"""Writes the network files of this folder from the tables of document 01, "Tried networks", and B as the standard input that the gate gives to `plan`."""
 import os
 import struct
-import sys
 
 OPEN, CLOSED = 1, 2
 
@@ -28,7 +27,9 @@ NETWORKS = {
 }
 
 if __name__ == "__main__":
-    folder = sys.argv[1] if len(sys.argv) > 1 else os.path.dirname(os.path.abspath(__file__))
-    for name, data in NETWORKS.items():
-        with open(os.path.join(folder, name), "wb") as file:
+    folder = os.path.dirname(os.path.abspath(__file__))
+    files = {os.path.join(folder, name): data for name, data in NETWORKS.items()}
+    files[os.path.join(folder, "..", "crates", "plan", "stdin")] = NETWORKS["b.net"]
+    for path, data in files.items():
+        with open(path, "wb") as file:
             file.write(data)

@@ -181,21 +181,26 @@ fn plan_file(net: &Net, set: u128) -> Vec<u8> {
 
 /// The reply to a network file that keeps rules 1 to 13; a refusal by its rule's number.
 pub fn plan(net: &Net) -> Reply {
+    plan_counted(net).0
+}
+
+/// The reply, and how many switches were searched over.
+pub fn plan_counted(net: &Net) -> (Reply, usize) {
     let n = net.load.len();
     let sound = |e: usize| net.flags[e] == 1;
     let faulty = |e: usize| net.flags[e] >= 2;
     let (start, looped) = labels(net, |l| net.links[l].2 != 1);
     if looped {
-        return Reply::Refused(14);
+        return (Reply::Refused(14), 0);
     }
     let mut sources = vec![0; n];
     (0..n).filter(|&e| sound(e)).for_each(|e| sources[start[e]] += 1);
     if sources.iter().any(|&count| count > 1) {
-        return Reply::Refused(15);
+        return (Reply::Refused(15), 0);
     }
     let live: Vec<bool> = (0..n).map(|e| sources[start[e]] == 1).collect();
     if (0..n).any(|e| faulty(e) && live[e]) {
-        return Reply::Refused(16);
+        return (Reply::Refused(16), 0);
     }
     let spoiled = spread(&labels(net, |l| net.links[l].2 == 0).0, faulty);
     let clean = labels(net, |l| !spoiled[net.links[l].0] && !spoiled[net.links[l].1]).0;
@@ -211,10 +216,10 @@ pub fn plan(net: &Net) -> Reply {
     let mut search = Search { net, own, switches: vec![], sources: (0..n).filter(|&e| sound(e)).collect(), best: None };
     let closed: u128 = (0..net.links.len()).filter(|&l| net.links[l].2 != 1).map(|l| 1u128 << l).sum();
     if !search.within_capacity(closed) {
-        return Reply::Refused(17);
+        return (Reply::Refused(17), 0);
     }
     if operable.len() > 12 {
-        return Reply::Refused(18);
+        return (Reply::Refused(18), 0);
     }
     let base = operable.iter().fold(closed, |c, &l| c & !(1 << l));
     let part = labels(net, |l| base >> l & 1 == 1).0;
@@ -233,7 +238,7 @@ pub fn plan(net: &Net) -> Reply {
         let k = node[part[e]];
         if k == usize::MAX {
             if waits(e) {
-                return Reply::None;
+                return (Reply::None, operable.len());
             }
             continue;
         }
@@ -246,8 +251,9 @@ pub fn plan(net: &Net) -> Reply {
         search.switches.push(Switch { link: l, a: node[part[k.0]], b: node[part[k.1]], closed: k.2 == 2, cost: k.3 });
     }
     search.search(0, parts, base, 0, 0);
-    match search.best {
+    let reply = match search.best {
         None => Reply::None,
         Some((_, set)) => Reply::Plan(plan_file(net, set)),
-    }
+    };
+    (reply, operable.len())
 }

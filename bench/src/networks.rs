@@ -1,4 +1,4 @@
-//! Random networks: the hardest that were found for the planner, and small ones of many shapes.
+//! Random networks: large ones with 12 operable switches, with and without a plan, and small ones of many shapes.
 use crate::independent::Net;
 
 pub struct Random(pub u64);
@@ -26,9 +26,19 @@ pub fn file_of(net: &Net) -> Vec<u8> {
     file
 }
 
-/// 64 elements, 96 links, 12 operable switches around 4 to 7 dark parts, and no plan: an element that is too small for its own load
-/// (`late` false), or sources whose capacities fall short by one in all (`late` true), which a walk finds out last.
-pub fn hard(r: &mut Random, late: bool) -> Net {
+/// What keeps a large network from having a plan.
+#[derive(Clone, Copy, PartialEq)]
+pub enum Kind {
+    /// an element that is too small for its own load
+    SmallElement,
+    /// sources that are too small by a few in all, which a walk finds out last
+    SmallSources,
+    /// nothing
+    Planned,
+}
+
+/// 64 elements, 96 links, 12 switches around 4 to 7 dark parts.
+pub fn large(r: &mut Random, kind: Kind) -> Net {
     let (sources, dark) = (1 + r.below(3), 4 + r.below(4));
     let groups = sources + dark;
     let mut net = Net::default();
@@ -44,13 +54,17 @@ pub fn hard(r: &mut Random, late: bool) -> Net {
         }
         members[group].push(e);
     }
-    if late {
-        let total: u64 = net.load.iter().sum();
-        (0..sources).for_each(|e| net.capacity[e] = total / sources as u64 - 1);
-    } else {
-        let small = *members[groups - 1].last().unwrap();
-        net.load[small] = 9;
-        net.capacity[small] = 8;
+    match kind {
+        Kind::SmallElement => {
+            let small = *members[groups - 1].last().unwrap();
+            net.load[small] = 9;
+            net.capacity[small] = 8;
+        }
+        Kind::SmallSources => {
+            let total: u64 = net.load.iter().sum();
+            (0..sources).for_each(|e| net.capacity[e] = total / sources as u64 - 1);
+        }
+        Kind::Planned => {}
     }
     let mut ties = 0;
     while ties < 12 {

@@ -1,4 +1,4 @@
--- The turns of `element_held` and `link_held`: the walk of `loads` in which nothing above its capacity has been found so far.
+-- The turns of `element_within` and `link_within`: the walk of `loads` in which nothing above its capacity has been found so far.
 -- Assumes nothing.
 use Prim.Native.Nat.{ℕ, zero, suc, _+_, _*_, _/_, _%_, _≤_, _<_}
 use mathlib.Core.Path.{_≡_, refl, sym, ap, _∙_}
@@ -18,18 +18,18 @@ use Rattle.loads.specs.declared.Carried.{Carried}
 use Rattle.loads.proofs.Rounds.{Walked, lower-within, lower-above, load-none, load-more, over-more}
 use Rattle.loads.proofs.Lending.{element-load-in, element-over-in, link-load-in, link-over-in, far-end}
 use Rattle.loads.proofs.Lending.{turn-none, turn-done, turn-below, turn-near, turn-on, turn-room}
-use Rattle.capacity.specs.Holding.{heldOr, heldWithin, heldAt, linkHeld}
-use Rattle.capacity.specs.declared.Held.{Held}
+use Rattle.capacity.specs.Within.{withinOr, loadWithin, withinAt, linkWithin}
+use Rattle.capacity.specs.declared.Within.{Within}
 
--- ---- what is held by one element
+-- ---- one element
 
-pub within : (x most : ℕ) → x ≤ most → record { load = x; fits = true } ≡ heldWithin x most
-unfolding heldWithin
-within x most h = rw (le-leb x most h, heldWithin)
+pub within : (x most : ℕ) → x ≤ most → record { load = x; fits = true } ≡ loadWithin x most
+unfolding loadWithin
+within x most h = rw (le-leb x most h, loadWithin)
 
-pub above : (x most : ℕ) → most < x → record { load = 0; fits = false } ≡ heldWithin x most
-unfolding heldWithin
-above x most h = rw (lt-leb x most h, heldWithin)
+pub above : (x most : ℕ) → most < x → record { load = 0; fits = false } ≡ loadWithin x most
+unfolding loadWithin
+above x most h = rw (lt-leb x most h, loadWithin)
 
 -- ---- the test of an answer
 
@@ -41,34 +41,34 @@ pub goes-on : (b : Bool) → not b ≡ false → b ≡ true
 goes-on true h = refl
 goes-on false h = absurd (false≢true (sym h))
 
--- ---- what is held, by whether something on the way is above its capacity
+-- ---- by whether something on the way is above its capacity
 
-fits-not : (b : Bool) (x : ℕ) → heldOr b x .fits ≡ false → b ≡ true
+fits-not : (b : Bool) (x : ℕ) → withinOr b x .fits ≡ false → b ≡ true
 fits-not true x h = refl
 fits-not false x h = absurd (false≢true (sym h))
 
-fits-load-is : (b : Bool) (x : ℕ) → heldOr b x .fits ≡ true → heldOr b x .load ≡ x
+fits-load-is : (b : Bool) (x : ℕ) → withinOr b x .fits ≡ true → withinOr b x .load ≡ x
 fits-load-is true x h = absurd (false≢true h)
 fits-load-is false x h = refl
 
-fits-so : (b : Bool) (x : ℕ) → heldOr b x .fits ≡ true → b ≡ false
+fits-so : (b : Bool) (x : ℕ) → withinOr b x .fits ≡ true → b ≡ false
 fits-so true x h = absurd (false≢true h)
 fits-so false x h = refl
 
 -- what a walk's answer says of the lowest element above its capacity
-pub stopped-over : (g : Grid) (c : Config) (d e via : ℕ) (r : Held) → r ≡ heldAt g c d e via → r .fits ≡ false → elementOver g c d e via < g .E
-unfolding heldAt
-stopped-over g c d e via r q f = ltb-true _ _ (fits-not _ _ (sym (ap (λ (x : Held). x .fits) q) ∙ f))
+pub stopped-over : (g : Grid) (c : Config) (d e via : ℕ) (r : Within) → r ≡ withinAt g c d e via → r .fits ≡ false → elementOver g c d e via < g .E
+unfolding withinAt
+stopped-over g c d e via r q f = ltb-true _ _ (fits-not _ _ (sym (ap (λ (x : Within). x .fits) q) ∙ f))
 
-pub fitting-over : (g : Grid) (c : Config) (d e via : ℕ) (r : Held) → r ≡ heldAt g c d e via → r .fits ≡ true → g .E ≤ elementOver g c d e via
-unfolding heldAt
-fitting-over g c d e via r q f = ltb-false _ _ (fits-so _ _ (sym (ap (λ (x : Held). x .fits) q) ∙ f))
+pub fitting-over : (g : Grid) (c : Config) (d e via : ℕ) (r : Within) → r ≡ withinAt g c d e via → r .fits ≡ true → g .E ≤ elementOver g c d e via
+unfolding withinAt
+fitting-over g c d e via r q f = ltb-false _ _ (fits-so _ _ (sym (ap (λ (x : Within). x .fits) q) ∙ f))
 
 -- x is the load, and nothing beyond e is above its capacity
-end-held : (g : Grid) (c : Config) (d e via x most : ℕ) → e < g .E
-    → record { load = x; over = lowerOver e x most (g .E) } ≡ elementCarried g c d e via → heldWithin x most ≡ heldAt g c d e via
-unfolding heldAt
-end-held g c d e via x most k q = go (leb x most) refl
+end-within : (g : Grid) (c : Config) (d e via x most : ℕ) → e < g .E
+    → record { load = x; over = lowerOver e x most (g .E) } ≡ elementCarried g c d e via → loadWithin x most ≡ withinAt g c d e via
+unfolding withinAt
+end-within g c d e via x most k q = go (leb x most) refl
   where
     load-is : elementLoad g c d e via ≡ x
     load-is = sym (ap (λ (r : Carried). r .load) q ∙ element-load-in g c d e via)
@@ -76,7 +76,7 @@ end-held g c d e via x most k q = go (leb x most) refl
     over-is : elementOver g c d e via ≡ lowerOver e x most (g .E)
     over-is = sym (ap (λ (r : Carried). r .over) q ∙ element-over-in g c d e via)
 
-    go : (t : Bool) → leb x most ≡ t → heldWithin x most ≡ heldOr (ltb (elementOver g c d e via) (g .E)) (elementLoad g c d e via)
+    go : (t : Bool) → leb x most ≡ t → loadWithin x most ≡ withinOr (ltb (elementOver g c d e via) (g .E)) (elementLoad g c d e via)
     go true t =
         let h : x ≤ most = leb-true x most t in
         let full : ltb (elementOver g c d e via) (g .E) ≡ false =
@@ -136,22 +136,22 @@ module _ {head next fars closed load capacity : List ℕ} {E K : ℕ} (lent : Le
 module _ {head next far closed load capacity : List ℕ} {E K : ℕ} (lent : Lent head next far closed load capacity E K)
     (d e via : ℕ) (inside : e < E) where
   -- no depth left
-  pub held-none : (depth : ℕ) → depth ≡ 0
-      → heldWithin (at load e) (at capacity e) ≡ heldAt (walkGrid E K far load capacity) (closedIn closed) depth e via
+  pub end-none : (depth : ℕ) → depth ≡ 0
+      → loadWithin (at load e) (at capacity e) ≡ withinAt (walkGrid E K far load capacity) (closedIn closed) depth e via
   unfolding walkGrid
-  held-none depth z = end-held (walkGrid E K far load capacity) (closedIn closed) depth e via (at load e) (at capacity e) inside
+  end-none depth z = end-within (walkGrid E K far load capacity) (closedIn closed) depth e via (at load e) (at capacity e) inside
       (turn-none head next far closed load capacity E K lent d e via depth _ inside z refl)
 
   -- every own end is gone by
-  pub held-done : (sum j : ℕ) → Walked (walkGrid E K far load capacity) (closedIn closed) d e via sum E j → (depth : ℕ) → 192 ≤ j → suc d ≡ depth
-      → heldWithin sum (at capacity e) ≡ heldAt (walkGrid E K far load capacity) (closedIn closed) depth e via
+  pub end-done : (sum j : ℕ) → Walked (walkGrid E K far load capacity) (closedIn closed) d e via sum E j → (depth : ℕ) → 192 ≤ j → suc d ≡ depth
+      → loadWithin sum (at capacity e) ≡ withinAt (walkGrid E K far load capacity) (closedIn closed) depth e via
   unfolding walkGrid
-  held-done sum j w depth k z = end-held (walkGrid E K far load capacity) (closedIn closed) depth e via sum (at capacity e) inside
+  end-done sum j w depth k z = end-within (walkGrid E K far load capacity) (closedIn closed) depth e via sum (at capacity e) inside
       (turn-done head next far closed load capacity E K lent d e via sum E j w depth _ k z refl)
 
   module _ (sum j : ℕ) (w : Walked (walkGrid E K far load capacity) (closedIn closed) d e via sum E j) (k : j < 192)
-      (r : Held) (h : at closed (j / 2) ≡ 1) (n : j / 2 ≡ via → ⊥)
-      (q : r ≡ linkHeld (walkGrid E K far load capacity) (closedIn closed) d (j / 2) (nearAt far j)) where
+      (r : Within) (h : at closed (j / 2) ≡ 1) (n : j / 2 ≡ via → ⊥)
+      (q : r ≡ linkWithin (walkGrid E K far load capacity) (closedIn closed) d (j / 2) (nearAt far j)) where
     near : nearAt far j ≡ e
     near = turn-near head next far closed load capacity E K lent d e via sum E j w k
 
@@ -159,34 +159,34 @@ module _ {head next far closed load capacity : List ℕ} {E K : ℕ} (lent : Len
     below = turn-below head next far closed load capacity E K lent d e via sum E j w k
 
     -- the link's walk has stopped, and so does this one
-    pub held-stop : (depth : ℕ) → suc d ≡ depth → r .fits ≡ false
-        → r ≡ heldAt (walkGrid E K far load capacity) (closedIn closed) depth e via
-    unfolding walkGrid heldAt linkHeld
-    held-stop depth z f =
+    pub stopped : (depth : ℕ) → suc d ≡ depth → r .fits ≡ false
+        → r ≡ withinAt (walkGrid E K far load capacity) (closedIn closed) depth e via
+    unfolding walkGrid withinAt linkWithin
+    stopped depth z f =
         let g : Grid = walkGrid E K far load capacity in
         let c : Config = closedIn closed in
         let found : ltb (linkOver g c d (j / 2) (nearAt far j)) E ≡ true =
-        fits-not _ _ (sym (ap (λ (x : Held). x .fits) q) ∙ f) in
+        fits-not _ _ (sym (ap (λ (x : Within). x .fits) q) ∙ f) in
         let lead = end-leads E K far closed load capacity j e via near h n in
         let low : elementOver g c (suc d) e via < E =
         omega (arith, over-on g c d e via (j / 2) (omega (arith, below)) lead, ltb-true _ E found, ap (linkOver g c d (j / 2)) near) in
         rw (← z, q, found, lt-ltb _ E low)
 
     fits-load : r .fits ≡ true → r .load ≡ linkLoad (walkGrid E K far load capacity) (closedIn closed) d (j / 2) (nearAt far j)
-    unfolding linkHeld
+    unfolding linkWithin
     fits-load f =
         let g : Grid = walkGrid E K far load capacity in
-        ap (λ (x : Held). x .load) q
-        ∙ fits-load-is (ltb (linkOver g (closedIn closed) d (j / 2) (nearAt far j)) (g .E)) _ (sym (ap (λ (x : Held). x .fits) q) ∙ f)
+        ap (λ (x : Within). x .load) q
+        ∙ fits-load-is (ltb (linkOver g (closedIn closed) d (j / 2) (nearAt far j)) (g .E)) _ (sym (ap (λ (x : Within). x .fits) q) ∙ f)
 
     fits-over : r .fits ≡ true → E ≤ linkOver (walkGrid E K far load capacity) (closedIn closed) d (j / 2) (nearAt far j)
-    unfolding walkGrid linkHeld
-    fits-over f = ltb-false _ E (fits-so _ _ (sym (ap (λ (x : Held). x .fits) q) ∙ f))
+    unfolding walkGrid linkWithin
+    fits-over f = ltb-false _ E (fits-so _ _ (sym (ap (λ (x : Within). x .fits) q) ∙ f))
 
     -- the link's walk has fitted, and its load is added
-    pub held-on : r .fits ≡ true → (sum′ : ℕ) → sum′ ≡ sum + r .load
+    pub went-on : r .fits ≡ true → (sum′ : ℕ) → sum′ ≡ sum + r .load
         → Walked (walkGrid E K far load capacity) (closedIn closed) d e via sum′ E (at next j)
-    held-on f sum′ s =
+    went-on f sum′ s =
         let carried : Carried = linkCarried (walkGrid E K far load capacity) (closedIn closed) d (j / 2) (nearAt far j) in
         let load-in = link-load-in (walkGrid E K far load capacity) (closedIn closed) d (j / 2) (nearAt far j) in
         let over-in = link-over-in (walkGrid E K far load capacity) (closedIn closed) d (j / 2) (nearAt far j) in
@@ -194,27 +194,27 @@ module _ {head next far closed load capacity : List ℕ} {E K : ℕ} (lent : Len
         (omega (arith, s, fits-load f, load-in)) (omega (arith, fits-over f, over-in))
 
     -- no partial sum is above the whole
-    pub held-room : r .fits ≡ true → (depth : ℕ) → suc d ≡ depth
+    pub went-room : r .fits ≡ true → (depth : ℕ) → suc d ≡ depth
         → sum + r .load ≤ elementLoad (walkGrid E K far load capacity) (closedIn closed) depth e via
-    held-room f depth z = omega (arith, fits-load f, turn-room head next far closed load capacity E K lent d e via sum E j w k depth z h n)
+    went-room f depth z = omega (arith, fits-load f, turn-room head next far closed load capacity E K lent d e via sum E j w k depth z h n)
 
 -- ---- the link's turns
 
-pub link-held-none : (E K : ℕ) (fars load capacity : List ℕ) (c : Config) (depth l e : ℕ) → depth ≡ 0
-    → record { load = 0; fits = true } ≡ linkHeld (walkGrid E K fars load capacity) c depth l e
-unfolding walkGrid linkHeld linkLoad linkOver
-link-held-none E K fars load capacity c depth l e z = rw (z, le-ltb E E (omega arith))
+pub link-within-none : (E K : ℕ) (fars load capacity : List ℕ) (c : Config) (depth l e : ℕ) → depth ≡ 0
+    → record { load = 0; fits = true } ≡ linkWithin (walkGrid E K fars load capacity) c depth l e
+unfolding walkGrid linkWithin linkLoad linkOver
+link-within-none E K fars load capacity c depth l e z = rw (z, le-ltb E E (omega arith))
 
-link-held-more : (g : Grid) (c : Config) (d l e : ℕ) → heldAt g c d (far g l e) l ≡ linkHeld g c (suc d) l e
-unfolding linkHeld heldAt linkLoad linkOver
-link-held-more g c d l e = refl
+link-within-more : (g : Grid) (c : Config) (d l e : ℕ) → withinAt g c d (far g l e) l ≡ linkWithin g c (suc d) l e
+unfolding linkWithin withinAt linkLoad linkOver
+link-within-more g c d l e = refl
 
-pub link-held-turn : {head next fars closed load capacity : List ℕ} {E K : ℕ} → Lent head next fars closed load capacity E K
-    → (d depth j : ℕ) (r : Held) → suc d ≡ depth → j < 2 * K
-    → r ≡ heldAt (walkGrid E K fars load capacity) (closedIn closed) d (at fars j) (j / 2)
-    → r ≡ linkHeld (walkGrid E K fars load capacity) (closedIn closed) depth (j / 2) (nearAt fars j)
-link-held-turn {fars = fars} {closed = closed} {load = load} {capacity = capacity} {E = E} {K = K} lent d depth j r z k q =
-    q ∙ ap (λ x. heldAt (walkGrid E K fars load capacity) (closedIn closed) d x (j / 2))
+pub link-within-turn : {head next fars closed load capacity : List ℕ} {E K : ℕ} → Lent head next fars closed load capacity E K
+    → (d depth j : ℕ) (r : Within) → suc d ≡ depth → j < 2 * K
+    → r ≡ withinAt (walkGrid E K fars load capacity) (closedIn closed) d (at fars j) (j / 2)
+    → r ≡ linkWithin (walkGrid E K fars load capacity) (closedIn closed) depth (j / 2) (nearAt fars j)
+link-within-turn {fars = fars} {closed = closed} {load = load} {capacity = capacity} {E = E} {K = K} lent d depth j r z k q =
+    q ∙ ap (λ x. withinAt (walkGrid E K fars load capacity) (closedIn closed) d x (j / 2))
     (sym (far-end E K fars load capacity (lent .differ) j k))
-    ∙ link-held-more (walkGrid E K fars load capacity) (closedIn closed) d (j / 2) (nearAt fars j)
-    ∙ ap (λ x. linkHeld (walkGrid E K fars load capacity) (closedIn closed) x (j / 2) (nearAt fars j)) z
+    ∙ link-within-more (walkGrid E K fars load capacity) (closedIn closed) d (j / 2) (nearAt fars j)
+    ∙ ap (λ x. linkWithin (walkGrid E K fars load capacity) (closedIn closed) x (j / 2) (nearAt fars j)) z

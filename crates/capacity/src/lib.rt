@@ -6,29 +6,29 @@ ghost use lib.Dec.{ltb};
 ghost use Rattle.feeding.specs.Parts.{closedIn};
 ghost use Rattle.feeding.specs.Loads.{elementLoad, linkLoad};
 ghost use Rattle.loads.specs.Walks.{Lent, walkGrid, nearAt, Carries, overPlace};
-ghost use Rattle.capacity.specs.Holding.{heldWithin, heldAt, linkHeld};
+ghost use Rattle.capacity.specs.Within.{loadWithin, withinAt, linkWithin};
 
 // A load, and whether every element that was met on the way is within its capacity; the load is 0 where one is not.
-pub struct Held {
+pub struct Within {
     pub load: u64,
     pub fits: bool,
 }
 
-// What is held by an element of this load and capacity.
-fn held_within(load: u64, capacity: u32) -> Held
-    ensures { λ r. ⌜ r ≡ heldWithin load capacity ⌝ }
+// Whether an element of this load is within its capacity.
+fn load_within(load: u64, capacity: u32) -> Within
+    ensures { λ r. ⌜ r ≡ loadWithin load capacity ⌝ }
 {
     if load <= capacity as u64 {
-        return Held { load, fits: true };
+        return Within { load, fits: true };
     }
-    Held {
+    Within {
         load: 0,
         fits: false,
     }
 }
 
-// What is held from e onward, come to over the link via.
-pub fn element_held<'a>(
+// The load at e, come to over the link via, where every element from e onward is within its capacity.
+pub fn element_within<'a>(
     head: &'a [u8; 64],
     next: &'a [u8; 192],
     far: &'a [u8; 192],
@@ -40,22 +40,22 @@ pub fn element_held<'a>(
     e: usize,
     via: usize,
     depth: usize,
-) -> Held
+) -> Within
     requires { ⌜ Lent (now head) (now next) (now far) (now closed) (now load) (now capacity) elements links ⌝ }
     requires { ⌜ (elements ≤ 64) × (e < elements) ⌝ }
     requires { ⌜ elementLoad (walkGrid elements links (now far) (now load) (now capacity)) (closedIn (now closed)) depth e via < 2 ^ 64 ⌝ }
-    ensures { λ r. ⌜ r ≡ heldAt (walkGrid elements links (now (far .entry)) (now (load .entry)) (now (capacity .entry))) (closedIn (now (closed .entry))) depth e via ⌝ }
+    ensures { λ r. ⌜ r ≡ withinAt (walkGrid elements links (now (far .entry)) (now (load .entry)) (now (capacity .entry))) (closedIn (now (closed .entry))) depth e via ⌝ }
 {
     let mut sum = load[e] as u64;
     if depth == 0 {
-        return held_within(sum, capacity[e]);
+        return load_within(sum, capacity[e]);
     }
     let mut j = head[e] as usize;
     while j < 192 {
         let l = j / 2;
         if closed[l] == 1 {
             if l != via {
-                let c = link_held(
+                let c = link_within(
                     head,
                     next,
                     far,
@@ -75,11 +75,11 @@ pub fn element_held<'a>(
         }
         j = next[j] as usize;
     }
-    held_within(sum, capacity[e])
+    load_within(sum, capacity[e])
 }
 
-// What is held over the link of end j, away from that end: from its far element onward.
-pub fn link_held<'a>(
+// What the link of end j carries away from that end: the load at its far element.
+pub fn link_within<'a>(
     head: &'a [u8; 64],
     next: &'a [u8; 192],
     far: &'a [u8; 192],
@@ -90,20 +90,20 @@ pub fn link_held<'a>(
     links: usize,
     j: usize,
     depth: usize,
-) -> Held
+) -> Within
     requires { ⌜ Lent (now head) (now next) (now far) (now closed) (now load) (now capacity) elements links ⌝ }
     requires { ⌜ (elements ≤ 64) × (j < 2 * links) ⌝ }
     requires { ⌜ linkLoad (walkGrid elements links (now far) (now load) (now capacity)) (closedIn (now closed)) depth (j / 2) (nearAt (now far) j) < 2 ^ 64 ⌝ }
-    ensures { λ r. ⌜ r ≡ linkHeld (walkGrid elements links (now (far .entry)) (now (load .entry)) (now (capacity .entry))) (closedIn (now (closed .entry))) depth (j / 2) (nearAt (now (far .entry)) j) ⌝ }
+    ensures { λ r. ⌜ r ≡ linkWithin (walkGrid elements links (now (far .entry)) (now (load .entry)) (now (capacity .entry))) (closedIn (now (closed .entry))) depth (j / 2) (nearAt (now (far .entry)) j) ⌝ }
 {
     if depth == 0 {
-        return Held {
+        return Within {
             load: 0,
             fits: true,
         };
     }
     let f = far[j] as usize;
-    element_held(
+    element_within(
         head,
         next,
         far,
@@ -119,7 +119,7 @@ pub fn link_held<'a>(
 }
 
 // Whether the load at every live element is within its capacity: a walk from each sound source.
-pub fn all_held<'a>(
+pub fn all_within<'a>(
     head: &'a [u8; 64],
     next: &'a [u8; 192],
     far: &'a [u8; 192],
@@ -138,7 +138,7 @@ pub fn all_held<'a>(
     let mut s: usize = 0;
     while s < elements {
         if sound[s] == 1 {
-            let c = element_held(
+            let c = element_within(
                 head,
                 next,
                 far,

@@ -48,7 +48,7 @@ bestOf found base link closed price far load capacity sound count E K i =
 
 module _ {found base link closed head next far load capacity sound : List ℕ} {n count E K : ℕ}
     (s : Scans found base link closed head next far load capacity sound n count E K) where
-  -- what `all_held` asks in the states that the set i leaves
+  -- what `all_within` asks in the states that the set i leaves
   pub asked : (i : ℕ) → i < n → (states : List ℕ) → states ≡ withSet (at link) (at closed) count (at found i) base
       → Lent head next far states load capacity E K × ((E ≤ 64) × Carries (walkGrid E K far load capacity) (closedIn states) sound)
   unfolding statesIn
@@ -101,19 +101,19 @@ module _ {found base link closed head next far load capacity sound : List ℕ} {
       unfolding priceIn
       dear-turn dear q = q ∙ sym (keep-dear cost fits b (at found i) (omega arith)) ∙ best-next i b h e
 
-      module _ (states : List ℕ) (held : Bool) (states-are : states ≡ withSet (at link) (at closed) count (at found i) base)
-          (held-is : held ≡ not (ltb (overPlace (walkGrid E K far load capacity) (closedIn states) sound) E)) where
-        fits-is : fits (at found i) ≡ held
+      module _ (states : List ℕ) (fit : Bool) (states-are : states ≡ withSet (at link) (at closed) count (at found i) base)
+          (within-is : fit ≡ not (ltb (overPlace (walkGrid E K far load capacity) (closedIn states) sound) E)) where
+        fits-is : fits (at found i) ≡ fit
         unfolding fitsIn statesIn walkGrid
-        fits-is = sym (held-is ∙ ap (λ (xs : List ℕ). not (ltb (overPlace (walkGrid E K far load capacity) (closedIn xs) sound) E)) states-are)
+        fits-is = sym (within-is ∙ ap (λ (xs : List ℕ). not (ltb (overPlace (walkGrid E K far load capacity) (closedIn xs) sound) E)) states-are)
 
         -- it is cheaper, but its loads don't stay within capacity
-        pub failed-turn : c < b .cost → held ≡ false → b′ ≡ b → b′ ≡ bestTo (i + 1)
+        pub failed-turn : c < b .cost → fit ≡ false → b′ ≡ b → b′ ≡ bestTo (i + 1)
         unfolding priceIn
         failed-turn cheap f q = q ∙ sym (keep-failed cost fits b (at found i) (omega arith) (fits-is ∙ f)) ∙ best-next i b h e
 
         -- it is cheaper, and they do
-        pub cheaper-turn : c < b .cost → held ≡ true → b′ ≡ record { cost = c; set = at found i } → b′ ≡ bestTo (i + 1)
+        pub cheaper-turn : c < b .cost → fit ≡ true → b′ ≡ record { cost = c; set = at found i } → b′ ≡ bestTo (i + 1)
         unfolding priceIn
         cheaper-turn cheap f q =
             q ∙ ap (λ (x : ℕ). record { cost = x; set = at found i }) p ∙ sym (keep-taken cost fits b (at found i) (omega arith) (fits-is ∙ f))

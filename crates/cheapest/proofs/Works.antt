@@ -42,7 +42,7 @@ use Rattle.switches.specs.Switches.{SwitchReach, switchList}
 use Rattle.switches.proofs.States.{length-states, members-operables, link-reach, states-flipped, price-set}
 use Rattle.candidates.specs.Searching.{candidatesOf}
 use Rattle.candidates.proofs.Starting.{candidates-fit}
-use Rattle.capacity.proofs.Grids.{held-same}
+use Rattle.capacity.proofs.Grids.{within-same}
 use Rattle.cheapest.specs.Scanning.{Scans, statesIn, priceIn, fitsIn}
 
 -- ---- lists
@@ -188,7 +188,7 @@ module _ (n : Network) (w : WellFormed n) (starts : Starts (netOf n)) {operable 
   fits-last : (s : ℕ) → fits s ≡ not (ltb (lowestOver (netOf n .grid) (last s)) (netOf n .grid .E))
   unfolding fitsIn walkGrid netOf gridOf
   fits-last s =
-      held-same (checked-after s) (g .sound-is)
+      within-same (checked-after s) (g .sound-is)
       ∙ ap (λ (x : ℕ). not (ltb x (n .elements))) (over-same (netOf n .grid) (formed-net n w) (closedIn (after s)) (last s) (states-at s))
 
   fits-works : (s : ℕ) → (candidate? (netOf n) (switchesOf (netOf n) s) && fits s) ≡ works? (netOf n) (switchesOf (netOf n) s)

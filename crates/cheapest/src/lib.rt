@@ -1,6 +1,6 @@
 // The cheapest set of operable switches that restores a network; the first in the set order where several cost the same.
 use candidates::list_candidates;
-use capacity::all_held;
+use capacity::all_within;
 use ends::own_ends;
 use network::Network;
 use operable::operable_switches;
@@ -42,7 +42,7 @@ fn cheapest_of<'a>(
 {
     let sets: &[u16] = found;
     let mut best = Best {
-        cost: 18446744073709551615,
+        cost: Best::NO_SET,
         set: 0,
     };
     let mut i: usize = 0;
@@ -51,7 +51,7 @@ fn cheapest_of<'a>(
         let cost = price_of(price, count, set);
         if cost < best.cost {
             let states = with_set(base, link, closed, count, set);
-            if all_held(
+            if all_within(
                 head,
                 next,
                 far,

@@ -11,7 +11,7 @@ use Rattle.network.specs.Refusals.{ruleNumber}
 use Rattle.plan_file.specs.declared.plan.Plan.{Plan}
 use Rattle.sums.specs.declared.Sums.{Sums}
 
--- "Printed numbers are in base ten without leading zeros": at most d + 1 digits, and n is enough for d
+-- "Printed numbers are in base ten without leading zeros". The depth d only bounds the recursion: with d = n it is never reached.
 unfoldable pub digits : ℕ → ℕ → List ℕ
 digits zero n = (48 + n) ∷ []
 digits (suc d) n = elim (ltb n 10) [ true ↦ (48 + n) ∷ [] | false ↦ digits d (n / 10) ++ ((48 + n % 10) ∷ []) ]

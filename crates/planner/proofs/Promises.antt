@@ -244,7 +244,6 @@ pub reply-kept : (s : List ℕ) → ((i : ℕ) → getD s i 0 < 256) → (buffer
     → ReplyKept s buffer (replyFor (outcome s) buffer) (bufferFor (outcome s) buffer)
 reply-kept s bytes buffer = kept-written s buffer (outcome s) (outcome-kept s bytes)
 
--- for what a function returned and left in the buffer
 -- the three clauses of `plan_into`, from the first two
 pub returned-kept : (s : List ℕ) → ((i : ℕ) → getD s i 0 < 256) → (buffer : List ℕ) {r : Reply} {after : List ℕ}
     → r ≡ replyFor (outcome s) buffer → after ≡ bufferFor (outcome s) buffer

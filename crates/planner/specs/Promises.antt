@@ -1,4 +1,5 @@
--- Demands 1, 2 and 3 for the planner's reply, in the paper's own terms; every field is about all lists of steps, or about the bytes.
+-- Demands 1, 2 and 3 for the planner's reply, in the paper's own terms: about all lists of steps, and about every sequence of bytes. Sums of loads
+-- and costs are functions, which have one layer.
 -- Assumes nothing.
 use mathlib.Core.Path.{_≡_}
 use mathlib.Core.List.{List, _++_}

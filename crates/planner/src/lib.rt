@@ -100,7 +100,7 @@ fn without_plan(net: Network) -> Outcome
 fn is_found(best: Best) -> bool
     ensures { λ r. ⌜ r ≡ ltb (best .cost) 18446744073709551615 ⌝ }
 {
-    best.cost < 18446744073709551615
+    best.cost < Best::NO_SET
 }
 
 // What an accepted network is answered.
@@ -189,7 +189,7 @@ pub fn cheapest_cost(net: Network) -> Cheapest
     Cheapest::NoPlan
 }
 
-// And of a network file.
+// What the cheapest valid plan of the network in a file costs.
 pub fn cheapest_in(s: &[u8]) -> Cheapest
     ensures { λ r. ⌜ CheapestFor (now (s .entry)) r ⌝ }
 {

@@ -4,6 +4,7 @@ use libc::STDOUT_FILENO;
 use network::refusal;
 use planner::Cheapest;
 use planner::Reply;
+use sums::Sums;
 
 fn text(bytes: &[u8]) {
     io::write_all(STDOUT_FILENO, bytes);
@@ -17,6 +18,11 @@ fn number(n: usize) {
 fn field(n: usize) {
     text(b" ");
     number(n);
+}
+
+fn wide_field(n: u64) {
+    text(b" ");
+    io::print_decimal(STDOUT_FILENO, n);
 }
 
 fn wide(byte: u8) -> usize {
@@ -48,13 +54,25 @@ fn case(n: usize, signs: &[u8]) {
     lines_of_part(bytes, 0, file.length);
 }
 
+fn show_sums(sums: Sums) {
+    wide_field(sums.fed);
+    wide_field(sums.dark);
+    wide_field(sums.lost);
+}
+
 fn show_reply(reply: Reply) {
     match reply {
         Reply::Plan(planned) => {
             text(b"plan");
             field(planned.steps);
+            wide_field(planned.cost);
+            let sums = planned.sums;
+            show_sums(sums);
         }
-        Reply::NoPlan(_) => text(b"none"),
+        Reply::NoPlan(sums) => {
+            text(b"none");
+            show_sums(sums);
+        }
         Reply::Refused(refused) => {
             text(b"refused");
             let rule = refused.rule;
@@ -111,12 +129,14 @@ fn buffer_case(n: usize, signs: &[u8], size: usize) {
 fn show_cheapest(cheapest: Cheapest) {
     match cheapest {
         Cheapest::Cost(cost) => {
-            text(b"costs ");
-            io::print_decimal(STDOUT_FILENO, cost);
+            text(b"costs");
+            wide_field(cost);
         }
         Cheapest::NoPlan => text(b"none"),
         Cheapest::Refused(refused) => {
             text(b"refused");
+            let rule = refused.rule;
+            field(wide(refusal::number(rule)));
             field(refused.place);
         }
     }

@@ -1,5 +1,6 @@
 -- The search that carries the parts along: the sets whose last configuration is radial, keeps faults from sources and feeds every
--- restorable element; loads are judged afterwards. It stops below a choice that closes a loop, joins two sources, or a fault to a source.
+-- restorable element; loads are judged afterwards. It stops below a choice that closes a loop, joins two sources, or a fault to a source, and
+-- where more parts wait than switches are left.
 -- Assumes nothing.
 use mathlib.Core.Bool.{Bool, true, false, not, _&&_, _||_}
 use mathlib.Core.List.{List, [], _∷_, _++_}

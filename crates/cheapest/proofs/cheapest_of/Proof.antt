@@ -37,8 +37,8 @@ with-set-requires c κs =
     let pre· = c .before .before .before .before .before .before .before .pre in
     pre· .reach
 
-all-held-requires : tie.Need-all-held-requires Inv-loop μ-loop
-all-held-requires c κs =
+all-within-requires : tie.Need-all-within-requires Inv-loop μ-loop
+all-within-requires c κs =
     let pre· = c .before .before .before .before .before .before .before .before .before .pre in
     let loop· = c .before .before .before .before .before .before .before .loop in
     let with-set· = c .before .with-set in
@@ -89,7 +89,7 @@ cheapest-of-spec =
     cast-set
     price-of-requires
     with-set-requires
-    all-held-requires
+    all-within-requires
     add-i
     loop-less
     loop-again

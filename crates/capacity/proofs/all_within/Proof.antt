@@ -1,4 +1,4 @@
--- `all_held` answers whether no walk from a marked element finds one above its capacity: the loop keeps that those before s found none.
+-- `all_within` answers whether no walk from a marked element finds one above its capacity: the loop keeps that those before s found none.
 -- Assumes nothing.
 use Prim.Native.Nat.{_-_, _≤_}
 use mathlib.Core.Path.{_≡_}
@@ -8,8 +8,8 @@ use Rattle.feeding.specs.Parts.{closedIn}
 use Rattle.loads.proofs.Sources.{placeTo, place-none, place-off, carries-at}
 use Rattle.capacity.proofs.Turns.{stops, goes-on}
 use Rattle.capacity.proofs.Sources.{kept-on, kept-not, kept-all}
-use Rattle.capacity.proofs.all_held.Statement.{statement}
-use Rattle.capacity.proofs.all_held.Tie as tie
+use Rattle.capacity.proofs.all_within.Statement.{statement}
+use Rattle.capacity.proofs.all_within.Tie as tie
 
 abbrev Inv-loop : tie.InvT-loop
 Inv-loop head next far closed load capacity sound elements links s₀ s =
@@ -26,11 +26,11 @@ loop-holds c =
 element-copy-out-if1 : tie.Need-element-copy-out-if1 Inv-loop μ-loop
 element-copy-out-if1 c = omega arith
 
-mul-element-held : tie.Need-mul-element-held Inv-loop μ-loop
-mul-element-held c = omega arith
+mul-element-within : tie.Need-mul-element-within Inv-loop μ-loop
+mul-element-within c = omega arith
 
-element-held-requires : tie.Need-element-held-requires Inv-loop μ-loop
-element-held-requires c κs =
+element-within-requires : tie.Need-element-within-requires Inv-loop μ-loop
+element-within-requires c κs =
     let a = c .before .before .before .before .args in
     let p = c .before .before .before .before .pre in
     let n = c .before .before .before .loop in (
@@ -47,7 +47,7 @@ returns : tie.Need-returns Inv-loop μ-loop
 returns c =
     let a = c .before .before .before .before .before .before .before .args in
     let n = c .before .before .before .before .before .before .loop in
-    let r = c .before .before .element-held in
+    let r = c .before .before .element-within in
     kept-not (a .elements) (a .links) (a .far .now) (a .load .now) (a .capacity .now) (closedIn (a .closed .now)) (a .sound .now)
     (n .s) (r .result) (omega arith) (omega arith) (r .ensures) (stops _ (c .if2 .taken))
 
@@ -77,16 +77,16 @@ returns-2 c =
     kept-all (a .elements) (a .links) (a .far .now) (a .load .now) (a .capacity .now) (closedIn (a .closed .now)) (a .sound .now)
     (n .s) (omega arith) (n .inv .1)
 
-pub all-held-spec : {M : Type 1} → statement M
-all-held-spec =
+pub all-within-spec : {M : Type 1} → statement M
+all-within-spec =
     tie.close
     (tie.spec
     Inv-loop
     μ-loop
     loop-holds
     element-copy-out-if1
-    mul-element-held
-    element-held-requires
+    mul-element-within
+    element-within-requires
     returns
     add-s
     loop-less
