@@ -26,6 +26,15 @@ unfolding networkRead
 empty-read (Runs.refused q) r e = refl
 empty-read (Runs.reached at stage n) r e = let z : _≡_ {A = ℕ} 0 1 = cc in absurd (omega arith)
 
+-- whatever is judged of s is what `read_accepted` answers, so bytes have one judgement
+pub judged-only : (s : List ℕ) (r : NetworkRead) → Judged s r → r ≡ acceptedRead (networkRead (networkInput s))
+unfolding acceptedRead acceptedFrom handedOut
+judged-only s _ (unread {r = f} e) =
+    ap (λ (n : Network). record { answer = Refused f; net = n }) (sym (empty-read (networkInput s) f e))
+    ∙ ap (acceptedFrom (networkRead (networkInput s) .net)) (sym e)
+judged-only s _ (refused {r = f} n e w h) = ap (handedOut n) (answered-network n w (Refused f) h) ∙ ap acceptedRead (sym e)
+judged-only s _ (accepted n e w h) = ap (handedOut n) (answered-network n w Accepted h) ∙ ap acceptedRead (sym e)
+
 module _ (s : List ℕ) (bytes : (i : ℕ) → getD s i 0 < 256) where
   -- a network that was read and found well formed
   judged-network : (n : Network) → networkRead (networkInput s) ≡ record { answer = Accepted; net = n } → WellFormed n

@@ -91,13 +91,6 @@ unfolding holdingsOf
 holdings-long live fault need = length-tabulate 64 _
 
 module _ (n : Network) (w : WellFormed n) where
-  -- the values that `members_of` reads
-  pub form-reach : Reach (n .form) (n .links)
-  form-reach = record { fit = w .links-fit; long = omega (arith, w .form-long, w .links-fit) }
-
-  pub flags-reach : Reach (n .flags) (n .elements)
-  flags-reach = record { fit = omega (arith, w .elements-fit); long = omega (arith, w .flags-long, w .elements-fit) }
-
   -- a set of links, of `except`
   pub links-reach : (xs : List ℕ) (f : ℕ → Bool) → xs ≡ bits 96 (n .links) f → Reach xs (n .links)
   links-reach xs f e = bits-reach xs (n .links) (n .links) f (w .links-fit) e
@@ -111,12 +104,6 @@ module _ (n : Network) (w : WellFormed n) where
   -- labels lent as a slice
   pub label-counted : (base : List ℕ) (parts : Parts) → parts ≡ partsOf (n .from) (n .to) base (n .links) → 64 ≡ length (parts .label)
   label-counted base parts p = sym (ap (λ (x : Parts). length (x .label)) p ∙ label-long (n .from) (n .to) base (n .links))
-
-  -- of `holdings`
-  pub holdings-reach : (live fault need : List ℕ) (f g h : ℕ → Bool) → live ≡ bits 96 (n .elements) f → fault ≡ bits 96 (n .elements) g
-      → need ≡ bits 96 (n .elements) h → (64 ≤ length live) × (64 ≤ length fault) × (64 ≤ length need)
-  holdings-reach live fault need f g h p q r =
-      (omega (arith, bits-long live (n .elements) f p), omega (arith, bits-long fault (n .elements) g q), omega (arith, bits-long need (n .elements) h r))
 
   -- of `waiting_parts`
   pub waiting-reach : (base : List ℕ) (parts : Parts) (live fault need holds : List ℕ) → parts ≡ partsOf (n .from) (n .to) base (n .links)

@@ -77,9 +77,6 @@ decimal-short (suc k) n h = go (ltb n 10) refl (decimal-short k (n / 10))
         let short : length (decimal (n / 10)) ≤ suc k = tenth (omega (arith, h, e)) in
         omega (arith, short, decimal-length n (ltb-false n 10 t))
 
-pub decimal-8 : (n : ℕ) → n < 256 → length (decimal n) ≤ 3
-decimal-8 n h = decimal-short 2 n (omega (arith, h))
-
 pub decimal-16 : (n : ℕ) → n < 65536 → length (decimal n) ≤ 5
 decimal-16 n h = decimal-short 4 n (omega (arith, h))
 

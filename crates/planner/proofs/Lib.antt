@@ -1,4 +1,5 @@
 pub mod Cases
+pub mod Exactly
 pub mod Operating
 pub mod Promises
 pub mod Solving

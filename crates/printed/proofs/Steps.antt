@@ -186,26 +186,6 @@ sweep-below m w pick (suc n) k = below-append m (sweep w pick n) _ (sweep-below 
 
 -- ---- the form
 
-one-state : (d : Bool) (x : ℕ) → gate (d && eqb x 1) 1 + gate (d && eqb x 0) 1 ≤ 1
-one-state false x = omega arith
-one-state true x = go (eqb x 1) refl (eqb x 0) refl
-  where
-    go : (t : Bool) → eqb x 1 ≡ t → (u : Bool) → eqb x 0 ≡ u → gate t 1 + gate u 1 ≤ 1
-    go true t true u = absurd (omega (arith, eqb-true x 1 t, eqb-true x 0 u))
-    go true t false u = omega arith
-    go false t true u = omega arith
-    go false t false u = omega arith
-
-pub form-length : (operated closed : List ℕ) (n : ℕ) → length (formOf operated closed n) ≤ n
-unfolding formOf inState
-form-length operated closed n =
-    lengths-apart (inState operated closed 1) (inState operated closed 0) n (λ l. one-state (isIn operated l) (at closed l))
-
-pub form-below : (operated closed : List ℕ) (n : ℕ) → LinksBelow n (formOf operated closed n)
-unfolding formOf
-form-below operated closed n =
-    below-append n (sweep false (inState operated closed 1) n) _ (sweep-below n false _ n (omega arith)) (sweep-below n true _ n (omega arith))
-
 one-group : (d s : Bool) → gate (d && s) 1 + gate (d && not s) 1 ≤ 1
 one-group false s = omega arith
 one-group true true = omega arith

@@ -29,11 +29,6 @@ use Rattle.switches.proofs.Turns.{length-column, at-column}
 
 -- ---- bits
 
-pub bit-gate : (x : ℕ) → x ≤ 1 → x ≡ gate (eqb x 1) 1
-bit-gate zero h = refl
-bit-gate (suc zero) h = refl
-bit-gate (suc (suc x)) h = absurd (omega arith)
-
 gate-bit : (b : Bool) → eqb (gate b 1) 1 ≡ b
 gate-bit true = refl
 gate-bit false = refl
@@ -50,14 +45,6 @@ differ-false true = refl
 differ-false false = refl
 
 -- ---- a switch turned over
-
-turned-bit : (closed b : ℕ) → turned closed b ≤ 1
-unfolding turned
-turned-bit closed b = go (eqb closed b)
-  where
-    go : (t : Bool) → elim t [ true ↦ 0 | false ↦ 1 ] ≤ 1
-    go true = omega arith
-    go false = omega arith
 
 turned-differ : (closed b : ℕ) → closed ≤ 1 → b ≤ 1 → eqb (turned closed b) 1 ≡ differ (eqb closed 1) (eqb b 1)
 unfolding turned
@@ -76,24 +63,6 @@ unfolding withSet
 length-states link closed zero s states = refl
 length-states link closed (suc n) s states =
     length-states link closed n (s / 2) (set states (link n) (turned (closed n) (s % 2))) ∙ length-set states (link n) (turned (closed n) (s % 2))
-
-set-bit : (xs : List ℕ) (k v l : ℕ) → v ≤ 1 → at xs l ≤ 1 → at (set xs k v) l ≤ 1
-set-bit xs k v l small h = go (eqb l k) refl (ltb k (length xs)) refl
-  where
-    go : (t : Bool) → eqb l k ≡ t → (u : Bool) → ltb k (length xs) ≡ u → at (set xs k v) l ≤ 1
-    go true t true u = rw (eqb-true l k t) (omega (arith, getD-set-same xs k v 0 (ltb-true k (length xs) u)))
-    go true t false u =
-        rw (eqb-true l k t)
-        (omega (arith, List·getD-eq-default (set xs k v) 0 {n = k} (omega (arith, length-set xs k v, ltb-false k (length xs) u))))
-    go false t u w = omega (arith, getD-set-other xs k l v 0 (eqb-false l k t))
-
--- each is 0 or 1 where it was before
-pub states-bit : (link closed : ℕ → ℕ) (n s : ℕ) (states : List ℕ) (l : ℕ) → at states l ≤ 1 → at (withSet link closed n s states) l ≤ 1
-unfolding withSet
-states-bit link closed zero s states l h = h
-states-bit link closed (suc n) s states l h =
-    states-bit link closed n (s / 2) (set states (link n) (turned (closed n) (s % 2))) l
-    (set-bit states (link n) (turned (closed n) (s % 2)) l (turned-bit (closed n) (s % 2)) h)
 
 -- a link that is none of the switches keeps its state
 pub states-other : (link closed : ℕ → ℕ) (n s : ℕ) (states : List ℕ) (l : ℕ) → ((j : ℕ) → j < n → l ≡ link j → ⊥)
@@ -204,10 +173,6 @@ module _ (n : Network) (well : WellFormed n) where
 
   -- ---- the arrays
 
-  pub link-long : length (sw .link) ≡ 16
-  unfolding switchList
-  link-long = length-column ops _
-
   pub from-long : length (sw .from) ≡ 16
   unfolding switchList
   from-long = length-column ops _
@@ -219,10 +184,6 @@ module _ (n : Network) (well : WellFormed n) where
   pub closed-long : length (sw .closed) ≡ 16
   unfolding switchList
   closed-long = length-column ops _
-
-  pub price-long : length (sw .price) ≡ 16
-  unfolding switchList
-  price-long = length-column ops _
 
   pub count-is : sw .count ≡ length ops
   unfolding switchList
@@ -246,10 +207,6 @@ module _ (n : Network) (well : WellFormed n) where
       bit : (b : Bool) → gate b 1 < 2
       bit true = omega arith
       bit false = omega arith
-
-  pub price-below : (i : ℕ) → at (sw .price) i < 65536
-  unfolding switchList
-  price-below = column-below ops (at (n .cost)) 65536 (omega arith) (λ i k. well .cost-in (at ops i) (operable-in i k .0))
 
   -- at most 16 of them, so that the arrays hold all
   module _ (few : length ops ≤ 16) where
@@ -308,9 +265,6 @@ module _ (n : Network) (well : WellFormed n) where
         s l (replicate 96 0) (λ j h. omega (arith, length-replicate {A = ℕ} 96 0, link-reach .link-in j h))
         (λ h. ap (λ x. eqb x 1) (zero-at 96 l))
         ∙ set-same s l
-
-    pub operated-bit : (s l : ℕ) → at (withSet (at (sw .link)) (at (replicate 16 0)) (length ops) s (replicate 96 0)) l ≤ 1
-    operated-bit s l = states-bit (at (sw .link)) (at (replicate 16 0)) (length ops) s (replicate 96 0) l (omega (arith, zero-at 96 l))
 
     -- what the set costs
     pub price-set : (s : ℕ) → priceOf (at (sw .price)) (length ops) s ≡ setCost (netOf n) (switchesOf (netOf n) s)
