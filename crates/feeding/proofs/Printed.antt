@@ -299,7 +299,7 @@ module _ (net : Net) (D : ℕ → Bool) (inside : (l : ℕ) → D l ≡ true →
       ∙ sumTo-ext (net .grid .K) _ _ (λ l _. split-cost (D l) (net .startClosed l) (net .cost l))
 
 -- the cost of document 01
-pub plain : (net : Net) → Pricing net
+unfoldable pub plain : (net : Net) → Pricing net
 plain net = record { list = costOf net; set = setCost net; at-most = changed-cost net; printed = printed-cost net }
 
 -- ---- the central theorem: for any goal, any set of operable switches and any pricing, a valid list of steps, however it goes, is matched by the

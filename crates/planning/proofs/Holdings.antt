@@ -93,12 +93,6 @@ pub data Clashes (h h′ : ℕ) : Type 0 where
   source-fault : hasSource h ≡ true → hasFault h′ ≡ true → Clashes h h′
   fault-source : hasFault h ≡ true → hasSource h′ ≡ true → Clashes h h′
 
-pub clash-in : (h h′ : ℕ) → Clashes h h′ → clash h h′ ≡ true
-unfolding clash
-clash-in h h′ (sources p q) = rw (p, q)
-clash-in h h′ (source-fault p q) = rw (p, q) (or-left (hasSource h′ || true) _ (or-right (hasSource h′) true refl))
-clash-in h h′ (fault-source p q) = rw (p, q) (or-right (hasSource h && true) true refl)
-
 pub clash-out : (h h′ : ℕ) → clash h h′ ≡ true → Clashes h h′
 unfolding clash
 clash-out h h′ c = go (hasSource h) refl (hasSource h′) refl c
@@ -108,3 +102,9 @@ clash-out h h′ c = go (hasSource h) refl (hasSource h′) refl c
     go true t false u c = source-fault t (or-out (hasFault h′) c)
     go false t true u c = fault-source c u
     go false t false u c = absurd (false≢true c)
+
+pub clash-in : (h h′ : ℕ) → Clashes h h′ → clash h h′ ≡ true
+unfolding clash
+clash-in h h′ (sources p q) = rw (p, q)
+clash-in h h′ (source-fault p q) = rw (p, q) (or-left (hasSource h′ || true) _ (or-right (hasSource h′) true refl))
+clash-in h h′ (fault-source p q) = rw (p, q) (or-right (hasSource h && true) true refl)

@@ -8,7 +8,7 @@ use mathlib.Core.Logic.{_⊎_, inl, inr}
 use lib.Dec.{eqb, ltb, leb}
 use lib.ListN.{length, length-append}
 use lib.Pow.{pow-pos}
-use borrow.Author.Tests.{eqb-true, eq-eqb, ne-eqb, ltb-true, ltb-false, lt-ltb, le-ltb, leb-true, leb-false, le-leb, lt-leb}
+use borrow.Author.Tests.{eqb-true, eq-eqb, ne-eqb, ltb-true, ltb-false, lt-ltb, le-ltb, leb-true, leb-false}
 use native.Mathlib.Omega.{arith}
 use Rattle.feeding.specs.Below.{gate, sumTo}
 use Rattle.feeding.specs.Loads.{lowestOver}
@@ -21,8 +21,9 @@ use Rattle.feeding.proofs.Lows.{those-out, those-rising}
 use Rattle.feeding.proofs.Sums.{sumTo-ext, sumTo-add, sumTo-none, sumTo-at, sumTo-below}
 use Rattle.planning.specs.declared.Best.{Best}
 use Rattle.planning.specs.Candidates.{radial?, candidate?}
-use Rattle.planning.specs.Choosing.{Choice, nothing, chosen, works?, cheaper, best, planned}
+use Rattle.planning.specs.Choosing.{Choice, nothing, chosen, works?, firstIf, cheaper, best, planned}
 use Rattle.planning.specs.Sets.{setOf, priceOf, setsFrom, passing, none, keep, scan, switchesOf, cheapestSet, choiceOf}
+use Rattle.planning.proofs.Choices.{pick-either}
 use Rattle.planning.proofs.Rising.{at-member, at-rising}
 
 -- ---- one set in the place of another
@@ -232,76 +233,83 @@ set-cost-below net few small D =
 
 -- ---- the cheaper of two
 
-cheaper-first : (net : Net) (a b : ℕ → Bool) → setCost net a ≤ setCost net b → cheaper net (chosen a) (chosen b) ≡ chosen a
+cheaper-first : (cost : (ℕ → Bool) → ℕ) (a b : ℕ → Bool) → cost a ≤ cost b → cheaper cost (chosen a) (chosen b) ≡ chosen a
 unfolding cheaper
-cheaper-first net a b h = rw (le-leb (setCost net a) (setCost net b) h, cheaper)
+cheaper-first cost a b h = pick-either _ (λ c. c ≡ chosen a) _ _ (λ _. refl) (λ e. absurd (omega (arith, leb-false)))
 
-cheaper-second : (net : Net) (a b : ℕ → Bool) → setCost net b < setCost net a → cheaper net (chosen a) (chosen b) ≡ chosen b
+cheaper-second : (cost : (ℕ → Bool) → ℕ) (a b : ℕ → Bool) → cost b < cost a → cheaper cost (chosen a) (chosen b) ≡ chosen b
 unfolding cheaper
-cheaper-second net a b h = rw (lt-leb (setCost net a) (setCost net b) h, cheaper)
+cheaper-second cost a b h = pick-either _ (λ c. c ≡ chosen b) _ _ (λ e. absurd (omega (arith, leb-true))) (λ _. refl)
 
-cheaper-none : (net : Net) (y : Choice) → cheaper net nothing y ≡ y
+cheaper-none : (cost : (ℕ → Bool) → ℕ) (y : Choice) → cheaper cost nothing y ≡ y
 unfolding cheaper
-cheaper-none net y = refl
+cheaper-none cost y = refl
 
-cheaper-alone : (net : Net) (x : Choice) → cheaper net x nothing ≡ x
+cheaper-alone : (cost : (ℕ → Bool) → ℕ) (x : Choice) → cheaper cost x nothing ≡ x
 unfolding cheaper
-cheaper-alone net nothing = refl
-cheaper-alone net (chosen a) = refl
+cheaper-alone cost nothing = refl
+cheaper-alone cost (chosen a) = refl
 
-cheaper-assoc : (net : Net) (x y z : Choice) → cheaper net (cheaper net x y) z ≡ cheaper net x (cheaper net y z)
-cheaper-assoc net nothing y z = ap (λ w. cheaper net w z) (cheaper-none net y) ∙ sym (cheaper-none net (cheaper net y z))
-cheaper-assoc net (chosen a) nothing z =
-    ap (λ w. cheaper net w z) (cheaper-alone net (chosen a)) ∙ ap (cheaper net (chosen a)) (sym (cheaper-none net z))
-cheaper-assoc net (chosen a) (chosen b) nothing =
-    cheaper-alone net (cheaper net (chosen a) (chosen b)) ∙ ap (cheaper net (chosen a)) (sym (cheaper-alone net (chosen b)))
-cheaper-assoc net (chosen a) (chosen b) (chosen c) =
-    go (leb (setCost net a) (setCost net b)) refl (leb (setCost net b) (setCost net c)) refl
+cheaper-assoc : (cost : (ℕ → Bool) → ℕ) (x y z : Choice) → cheaper cost (cheaper cost x y) z ≡ cheaper cost x (cheaper cost y z)
+cheaper-assoc cost nothing y z = ap (λ w. cheaper cost w z) (cheaper-none cost y) ∙ sym (cheaper-none cost (cheaper cost y z))
+cheaper-assoc cost (chosen a) nothing z =
+    ap (λ w. cheaper cost w z) (cheaper-alone cost (chosen a)) ∙ ap (cheaper cost (chosen a)) (sym (cheaper-none cost z))
+cheaper-assoc cost (chosen a) (chosen b) nothing =
+    cheaper-alone cost (cheaper cost (chosen a) (chosen b)) ∙ ap (cheaper cost (chosen a)) (sym (cheaper-alone cost (chosen b)))
+cheaper-assoc cost (chosen a) (chosen b) (chosen c) =
+    go (leb (cost a) (cost b)) refl (leb (cost b) (cost c)) refl
   where
-    go : (t : Bool) → leb (setCost net a) (setCost net b) ≡ t → (u : Bool) → leb (setCost net b) (setCost net c) ≡ u
-        → cheaper net (cheaper net (chosen a) (chosen b)) (chosen c) ≡ cheaper net (chosen a) (cheaper net (chosen b) (chosen c))
+    go : (t : Bool) → leb (cost a) (cost b) ≡ t → (u : Bool) → leb (cost b) (cost c) ≡ u
+        → cheaper cost (cheaper cost (chosen a) (chosen b)) (chosen c) ≡ cheaper cost (chosen a) (cheaper cost (chosen b) (chosen c))
     go true t true u =
-        let ab = leb-true (setCost net a) (setCost net b) t in
-        let bc = leb-true (setCost net b) (setCost net c) u in
-        rw (cheaper-first net a b ab, cheaper-first net b c bc, cheaper-first net a c (omega (arith, ab, bc)), cheaper-first net a b ab)
+        let ab = leb-true (cost a) (cost b) t in
+        let bc = leb-true (cost b) (cost c) u in
+        rw (cheaper-first cost a b ab, cheaper-first cost b c bc, cheaper-first cost a c (omega (arith, ab, bc)), cheaper-first cost a b ab)
     go true t false u =
         rw (
-          cheaper-first net a b (leb-true (setCost net a) (setCost net b) t),
-          cheaper-second net b c (leb-false (setCost net b) (setCost net c) u),
+          cheaper-first cost a b (leb-true (cost a) (cost b) t),
+          cheaper-second cost b c (leb-false (cost b) (cost c) u),
         )
     go false t true u =
-        let ab = leb-false (setCost net a) (setCost net b) t in
-        let bc = leb-true (setCost net b) (setCost net c) u in
-        rw (cheaper-second net a b ab, cheaper-first net b c bc, cheaper-second net a b ab)
+        let ab = leb-false (cost a) (cost b) t in
+        let bc = leb-true (cost b) (cost c) u in
+        rw (cheaper-second cost a b ab, cheaper-first cost b c bc, cheaper-second cost a b ab)
     go false t false u =
-        let ab = leb-false (setCost net a) (setCost net b) t in
-        let bc = leb-false (setCost net b) (setCost net c) u in
-        rw (cheaper-second net a b ab, cheaper-second net b c bc, cheaper-second net a c (omega (arith, ab, bc)))
+        let ab = leb-false (cost a) (cost b) t in
+        let bc = leb-false (cost b) (cost c) u in
+        rw (cheaper-second cost a b ab, cheaper-second cost b c bc, cheaper-second cost a c (omega (arith, ab, bc)))
 
-best-works : (net : Net) (D : ℕ → Bool) → works? net D ≡ true → best net D [] ≡ chosen D
-unfolding best
-best-works net D h = rw (h, best)
+-- with the cost and the test of document 01
+abbrev cheaperOf : Net → Choice → Choice → Choice
+cheaperOf net x y = cheaper (setCost net) x y
 
-best-fails : (net : Net) (D : ℕ → Bool) → works? net D ≡ false → best net D [] ≡ nothing
-unfolding best
-best-fails net D h = rw (h, best)
+abbrev bestOf : Net → (ℕ → Bool) → List ℕ → Choice
+bestOf net D ls = best (setCost net) (works? net) D ls
+
+best-works : (net : Net) (D : ℕ → Bool) → works? net D ≡ true → bestOf net D [] ≡ chosen D
+unfolding best firstIf
+best-works net D h = rw (h, best, firstIf)
+
+best-fails : (net : Net) (D : ℕ → Bool) → works? net D ≡ false → bestOf net D [] ≡ nothing
+unfolding best firstIf
+best-fails net D h = rw (h, best, firstIf)
 
 best-more : (net : Net) (D : ℕ → Bool) (l : ℕ) (ls : List ℕ)
-    → best net D (l ∷ ls) ≡ cheaper net (best net (put D l true) ls) (best net (put D l false) ls)
+    → bestOf net D (l ∷ ls) ≡ cheaperOf net (bestOf net (put D l true) ls) (bestOf net (put D l false) ls)
 unfolding best
 best-more net D l ls = refl
 
 -- the first cheapest of the sets listed that work
 over : Net → List ℕ → Choice
 over net [] = nothing
-over net (s ∷ ss) = cheaper net (best net (switchesOf net s) []) (over net ss)
+over net (s ∷ ss) = cheaperOf net (bestOf net (switchesOf net s) []) (over net ss)
 
-over-append : (net : Net) (xs ys : List ℕ) → over net (xs ++ ys) ≡ cheaper net (over net xs) (over net ys)
+over-append : (net : Net) (xs ys : List ℕ) → over net (xs ++ ys) ≡ cheaperOf net (over net xs) (over net ys)
 unfolding over
-over-append net [] ys = sym (cheaper-none net (over net ys))
+over-append net [] ys = sym (cheaper-none (setCost net) (over net ys))
 over-append net (s ∷ ss) ys =
-    ap (cheaper net (best net (switchesOf net s) [])) (over-append net ss ys)
-    ∙ sym (cheaper-assoc net (best net (switchesOf net s) []) (over net ss) (over net ys))
+    ap (cheaperOf net (bestOf net (switchesOf net s) [])) (over-append net ss ys)
+    ∙ sym (cheaper-assoc (setCost net) (bestOf net (switchesOf net s) []) (over net ss) (over net ys))
 
 -- ---- numbers in the set order are the plain recursion
 
@@ -320,14 +328,14 @@ set-without op i s =
 -- the switches of ls are those from the place i onward
 over-best : (net : Net) (ls : List ℕ) (i s : ℕ) → i + length ls ≡ length (operables net)
     → ((j : ℕ) → j < length ls → at ls j ≡ at (operables net) (i + j))
-    → over net (setsFrom (length ls) s) ≡ best net (setOf (at (operables net)) i s) ls
+    → over net (setsFrom (length ls) s) ≡ bestOf net (setOf (at (operables net)) i s) ls
 unfolding setsFrom over switchesOf
 over-best net [] i s h e =
     let q : length (operables net) ≡ i = omega arith in
-    cheaper-alone net (best net (switchesOf net s) []) ∙ ap (λ n. best net (setOf (at (operables net)) n s) []) q
+    cheaper-alone (setCost net) (bestOf net (switchesOf net s) []) ∙ ap (λ n. bestOf net (setOf (at (operables net)) n s) []) q
 over-best net (l ∷ ls) i s h e =
     over-append net (setsFrom (length ls) (2 * s + 1)) (setsFrom (length ls) (2 * s))
-    ∙ ap₂ (cheaper net) (over-best net ls (suc i) (2 * s + 1) (omega arith) later) (over-best net ls (suc i) (2 * s) (omega arith) later)
+    ∙ ap₂ (cheaperOf net) (over-best net ls (suc i) (2 * s + 1) (omega arith) later) (over-best net ls (suc i) (2 * s) (omega arith) later)
     ∙ step
   where
     op : ℕ → ℕ
@@ -339,9 +347,9 @@ over-best net (l ∷ ls) i s h e =
     later : (j : ℕ) → j < length ls → at ls j ≡ op (suc i + j)
     later j k = let q : i + suc j ≡ suc i + j = omega arith in e (suc j) (omega arith) ∙ ap op q
 
-    step : cheaper net (best net (setOf op (suc i) (2 * s + 1)) ls) (best net (setOf op (suc i) (2 * s)) ls) ≡ best net (setOf op i s) (l ∷ ls)
+    step : cheaperOf net (bestOf net (setOf op (suc i) (2 * s + 1)) ls) (bestOf net (setOf op (suc i) (2 * s)) ls) ≡ bestOf net (setOf op i s) (l ∷ ls)
     step =
-        ap₂ (λ D D′. cheaper net (best net D ls) (best net D′ ls))
+        ap₂ (λ D D′. cheaperOf net (bestOf net D ls) (bestOf net D′ ls))
         (set-with op i s ∙ ap (λ m. put (setOf op i s) m true) first)
         (set-without op i s ∙ ap (λ m. put (setOf op i s) m false) first)
         ∙ sym (best-more net (setOf op i s) l ls)
@@ -379,30 +387,30 @@ module _ (net : Net) (few : net .grid .K ≤ 96) (small : (l : ℕ) → l < net 
       go false t = subst (Fair net) (sym (kept-dear (price s) true b s (ltb-false _ _ t))) f
 
   kept-choice : (b : Best) (s : ℕ) → Fair net b
-      → choiceOf net (kept (price s) (works s) b s) ≡ cheaper net (choiceOf net b) (best net (switchesOf net s) [])
+      → choiceOf net (kept (price s) (works s) b s) ≡ cheaperOf net (choiceOf net b) (bestOf net (switchesOf net s) [])
   kept-choice b s f = go (works s) refl f (ltb (price s) (b .cost)) refl
     where
       go : (t : Bool) → works s ≡ t → Fair net b → (u : Bool) → ltb (price s) (b .cost) ≡ u
-          → choiceOf net (kept (price s) t b s) ≡ cheaper net (choiceOf net b) (best net (switchesOf net s) [])
+          → choiceOf net (kept (price s) t b s) ≡ cheaperOf net (choiceOf net b) (bestOf net (switchesOf net s) [])
       go false t f u v =
           ap (choiceOf net) (kept-failed (price s) b s)
-          ∙ sym (ap (cheaper net (choiceOf net b)) (best-fails net (switchesOf net s) t) ∙ cheaper-alone net (choiceOf net b))
+          ∙ sym (ap (cheaperOf net (choiceOf net b)) (best-fails net (switchesOf net s) t) ∙ cheaper-alone (setCost net) (choiceOf net b))
       go true t (inl e) u v =
           ap (choiceOf net) (kept-taken (price s) b s (omega (arith, below s)))
           ∙ choice-chosen net (record { cost = price s; set = s }) (below s)
-          ∙ sym (ap₂ (cheaper net) (choice-nothing net b e) (best-works net (switchesOf net s) t) ∙ cheaper-none net (chosen (switchesOf net s)))
+          ∙ sym (ap₂ (cheaperOf net) (choice-nothing net b e) (best-works net (switchesOf net s) t) ∙ cheaper-none (setCost net) (chosen (switchesOf net s)))
       go true t (inr e) true v =
           ap (choiceOf net) (kept-taken (price s) b s (ltb-true _ _ v))
           ∙ choice-chosen net (record { cost = price s; set = s }) (below s)
           ∙ sym
-          (ap₂ (cheaper net) (choice-chosen net b (omega (arith, below (b .set)))) (best-works net (switchesOf net s) t)
-          ∙ cheaper-second net (switchesOf net (b .set)) (switchesOf net s) (omega (arith, ltb-true (price s) (b .cost) v)))
+          (ap₂ (cheaperOf net) (choice-chosen net b (omega (arith, below (b .set)))) (best-works net (switchesOf net s) t)
+          ∙ cheaper-second (setCost net) (switchesOf net (b .set)) (switchesOf net s) (omega (arith, ltb-true (price s) (b .cost) v)))
       go true t (inr e) false v =
           ap (choiceOf net) (kept-dear (price s) true b s (ltb-false _ _ v))
           ∙ choice-chosen net b (omega (arith, below (b .set)))
           ∙ sym
-          (ap₂ (cheaper net) (choice-chosen net b (omega (arith, below (b .set)))) (best-works net (switchesOf net s) t)
-          ∙ cheaper-first net (switchesOf net (b .set)) (switchesOf net s) (omega (arith, ltb-false (price s) (b .cost) v)))
+          (ap₂ (cheaperOf net) (choice-chosen net b (omega (arith, below (b .set)))) (best-works net (switchesOf net s) t)
+          ∙ cheaper-first (setCost net) (switchesOf net (b .set)) (switchesOf net s) (omega (arith, ltb-false (price s) (b .cost) v)))
 
   scan-fair : (xs : List ℕ) (b : Best) → Fair net b → Fair net (scan price works xs b)
   unfolding scan
@@ -410,14 +418,14 @@ module _ (net : Net) (few : net .grid .K ≤ 96) (small : (l : ℕ) → l < net 
   scan-fair (s ∷ ss) b f =
       subst (Fair net) (sym (scan-more price works s ss b)) (scan-fair ss (kept (price s) (works s) b s) (kept-fair b s (works s) f))
 
-  scan-choice : (xs : List ℕ) (b : Best) → Fair net b → choiceOf net (scan price works xs b) ≡ cheaper net (choiceOf net b) (over net xs)
+  scan-choice : (xs : List ℕ) (b : Best) → Fair net b → choiceOf net (scan price works xs b) ≡ cheaperOf net (choiceOf net b) (over net xs)
   unfolding scan over
-  scan-choice [] b f = sym (cheaper-alone net (choiceOf net b))
+  scan-choice [] b f = sym (cheaper-alone (setCost net) (choiceOf net b))
   scan-choice (s ∷ ss) b f =
       ap (choiceOf net) (scan-more price works s ss b)
       ∙ scan-choice ss (kept (price s) (works s) b s) (kept-fair b s (works s) f)
-      ∙ ap (λ c. cheaper net c (over net ss)) (kept-choice b s f)
-      ∙ cheaper-assoc net (choiceOf net b) (best net (switchesOf net s) []) (over net ss)
+      ∙ ap (λ c. cheaperOf net c (over net ss)) (kept-choice b s f)
+      ∙ cheaper-assoc (setCost net) (choiceOf net b) (bestOf net (switchesOf net s) []) (over net ss)
 
   none-fair : Fair net none
   unfolding none
@@ -431,8 +439,8 @@ module _ (net : Net) (few : net .grid .K ≤ 96) (small : (l : ℕ) → l < net 
   unfolding cheapestSet planned setOf
   choice-planned =
       scan-choice (setsFrom (length (operables net)) 0) none none-fair
-      ∙ ap (λ c. cheaper net c (over net (setsFrom (length (operables net)) 0))) none-nothing
-      ∙ cheaper-none net (over net (setsFrom (length (operables net)) 0))
+      ∙ ap (λ c. cheaperOf net c (over net (setsFrom (length (operables net)) 0))) none-nothing
+      ∙ cheaper-none (setCost net) (over net (setsFrom (length (operables net)) 0))
       ∙ over-best net (operables net) 0 0 (omega arith) (λ j k. let q : j ≡ 0 + j = omega arith in ap (at (operables net)) q)
 
   pub cheapest-fair : cheapestSet net .cost < 18446744073709551615 → cheapestSet net .cost ≡ setCost net (switchesOf net (cheapestSet net .set))

@@ -1,4 +1,4 @@
--- Document 01, "The printed plan": which set of switches is operated; and demands 2 and 3 for a plan, in the paper's terms.
+-- Document 01, "The printed plan": which set of switches is operated; and demands 2 and 3 for a plan. Operable set, goal and cost are parameters.
 -- Assumes nothing.
 use mathlib.Core.Path.{_≡_}
 use mathlib.Core.Bool.{Bool, true, false}
@@ -8,14 +8,15 @@ use Prim.Native.Nat.{ℕ, _≤_, _<_}
 use lib.Dec.{leb}
 use Rattle.feeding.specs.Below.{gate}
 use Rattle.feeding.specs.Networks.{Net}
+use Rattle.feeding.specs.Parts.{Config}
 use Rattle.feeding.specs.Safety.{safe?}
-use Rattle.feeding.specs.Restoration.{Operable, operables, restored?}
-use Rattle.feeding.specs.Plans.{Step, ValidPlan, costOf, operations, printedForm, put, flip, setCost}
+use Rattle.feeding.specs.Restoration.{Operable, operables, Restored, restored?}
+use Rattle.feeding.specs.Plans.{Step, Valid, costOf, operations, printedForm, put, flip, setCost}
 
 -- D is a set of operable switches, and its printed form is a valid plan
-pub record Restores (net : Net) (D : ℕ → Bool) : Type 0 where
-  pub operable : (l : ℕ) → D l ≡ true → Operable net l
-  pub valid : ValidPlan net (printedForm net D)
+pub record RestoresBy (net : Net) (op : ℕ → Type 0) (goal : Config → Type 0) (D : ℕ → Bool) : Type 0 where
+  pub operable : (l : ℕ) → D l ≡ true → op l
+  pub valid : Valid net op goal (printedForm net D)
 
 -- "at the lowest link number found in only one of the two sets, the set that has it comes first": D comes before D′
 pub record Before (D D′ : ℕ → Bool) : Type 0 where
@@ -26,61 +27,87 @@ pub record Before (D D′ : ℕ → Bool) : Type 0 where
 
 -- "Among the cheapest valid plans of that form, compare the sets of switches operated" .. "The plan whose set comes before all others is
 -- printed."
-pub record Picked (net : Net) (D : ℕ → Bool) : Type 0 where
-  pub restores : Restores net D
-  pub cheapest : (D′ : ℕ → Bool) → Restores net D′ → costOf net (printedForm net D) ≤ costOf net (printedForm net D′)
-  pub first : (D′ : ℕ → Bool) → Restores net D′ → costOf net (printedForm net D′) ≡ costOf net (printedForm net D) → (D ≡ D′) ⊎ Before D D′
+pub record PickedBy (net : Net) (op : ℕ → Type 0) (goal : Config → Type 0) (price : List Step → ℕ) (D : ℕ → Bool) : Type 0 where
+  pub restores : RestoresBy net op goal D
+  pub cheapest : (D′ : ℕ → Bool) → RestoresBy net op goal D′ → price (printedForm net D) ≤ price (printedForm net D′)
+  pub first : (D′ : ℕ → Bool) → RestoresBy net op goal D′ → price (printedForm net D′) ≡ price (printedForm net D) → (D ≡ D′) ⊎ Before D D′
 
 -- no valid plan costs less than q
-abbrev pub NoneCheaper : Net → List Step → Type 0
-NoneCheaper net q = (q′ : List Step) → ValidPlan net q′ → costOf net q ≤ costOf net q′
+abbrev pub NoneCheaperBy : (net : Net) (op : ℕ → Type 0) (goal : Config → Type 0) (price : List Step → ℕ) → List Step → Type 0
+NoneCheaperBy net op goal price q = (q′ : List Step) → Valid net op goal q′ → price q ≤ price q′
 
 -- demand 3 for one list of steps: it costs at least the printed cost, and exactly that if and only if no valid plan costs less than it
-pub record NoCheaperThan (net : Net) (cost : ℕ) (q : List Step) : Type 0 where
-  pub at-least : cost ≤ costOf net q
-  pub none-cheaper : costOf net q ≡ cost → NoneCheaper net q
-  pub equal : NoneCheaper net q → costOf net q ≡ cost
+pub record NoCheaperThanBy (net : Net) (op : ℕ → Type 0) (goal : Config → Type 0) (price : List Step → ℕ) (cost : ℕ) (q : List Step) : Type 0 where
+  pub at-least : cost ≤ price q
+  pub none-cheaper : price q ≡ cost → NoneCheaperBy net op goal price q
+  pub equal : NoneCheaperBy net op goal price q → price q ≡ cost
 
 -- demands 2 and 3 for a printed plan and its printed cost
-pub record Promised (net : Net) (plan : List Step) (cost : ℕ) : Type 0 where
-  pub valid : ValidPlan net plan
+pub record PromisedBy (net : Net) (op : ℕ → Type 0) (goal : Config → Type 0) (price : List Step → ℕ) (plan : List Step) (cost : ℕ) : Type 0 where
+  pub valid : Valid net op goal plan
   pub set : ℕ → Bool
   -- "first the openings, then the closings, each group by rising link number"
   pub form : plan ≡ printedForm net set
   -- "It operates each of its switches once"
   pub once : (l : ℕ) → operations l plan ≡ gate (set l) 1
   -- "the cost printed with it is its own"
-  pub own : cost ≡ costOf net plan
+  pub own : cost ≡ price plan
   -- "the printed plan is the one that document 01 picks"
-  pub picked : Picked net set
+  pub picked : PickedBy net op goal price set
   -- "whatever list of steps anybody draws up"
-  pub every : (q : List Step) → ValidPlan net q → NoCheaperThan net cost q
+  pub every : (q : List Step) → Valid net op goal q → NoCheaperThanBy net op goal price cost q
 
 -- demand 2 for NONE: no list of steps is a valid plan
-abbrev pub NoPlan : Net → Type 0
-NoPlan net = (q : List Step) → ¬ ValidPlan net q
+abbrev pub NoPlanBy : (net : Net) (op : ℕ → Type 0) (goal : Config → Type 0) → Type 0
+NoPlanBy net op goal = (q : List Step) → ¬ Valid net op goal q
 
--- ---- what computes: the plain recursion over all sets of operable switches
+-- ---- document 01: its operable switches, every restorable element live at the end, and the sum of the steps' costs
+
+abbrev pub Restores : Net → (ℕ → Bool) → Type 0
+Restores net D = RestoresBy net (Operable net) (Restored net) D
+
+abbrev pub Picked : Net → (ℕ → Bool) → Type 0
+Picked net D = PickedBy net (Operable net) (Restored net) (costOf net) D
+
+abbrev pub NoneCheaper : Net → List Step → Type 0
+NoneCheaper net q = NoneCheaperBy net (Operable net) (Restored net) (costOf net) q
+
+abbrev pub NoCheaperThan : Net → ℕ → List Step → Type 0
+NoCheaperThan net cost q = NoCheaperThanBy net (Operable net) (Restored net) (costOf net) cost q
+
+abbrev pub Promised : Net → List Step → ℕ → Type 0
+Promised net plan cost = PromisedBy net (Operable net) (Restored net) (costOf net) plan cost
+
+abbrev pub NoPlan : Net → Type 0
+NoPlan net = NoPlanBy net (Operable net) (Restored net)
+
+-- ---- what computes: the plain recursion over all sets of operable switches, for any cost of a set and any test of it
 
 pub data Choice : Type 0 where
   nothing : Choice
   chosen : (ℕ → Bool) → Choice
 
+-- the first of two where the answer is true, the second where it is false
+unfoldable pub firstIf : Bool → Choice → Choice → Choice
+firstIf t x y = elim t [ true ↦ x | false ↦ y ]
+
+-- the cheaper of two; the first where they cost the same
+unfoldable pub cheaper : (cost : (ℕ → Bool) → ℕ) → Choice → Choice → Choice
+cheaper cost nothing y = y
+cheaper cost (chosen a) nothing = chosen a
+cheaper cost (chosen a) (chosen b) = firstIf (leb (cost a) (cost b)) (chosen a) (chosen b)
+
+-- the cheapest set that works, over the switches of the list, and like D elsewhere; a set that has the next switch comes first
+unfoldable pub best : (cost : (ℕ → Bool) → ℕ) (works : (ℕ → Bool) → Bool) → (ℕ → Bool) → List ℕ → Choice
+best cost works D [] = firstIf (works D) (chosen D) nothing
+best cost works D (l ∷ ls) = cheaper cost (best cost works (put D l true) ls) (best cost works (put D l false) ls)
+
+-- ---- document 01
+
 -- the configuration with the switches of D operated is safe, and every restorable element is live in it
 unfoldable pub works? : Net → (ℕ → Bool) → Bool
 works? net D = elim (safe? (net .grid) (flip (net .startClosed) D)) [ true ↦ restored? net (flip (net .startClosed) D) | false ↦ false ]
 
--- the cheaper of two; the first where they cost the same
-unfoldable pub cheaper : Net → Choice → Choice → Choice
-cheaper net nothing y = y
-cheaper net (chosen a) nothing = chosen a
-cheaper net (chosen a) (chosen b) = elim (leb (setCost net a) (setCost net b)) [ true ↦ chosen a | false ↦ chosen b ]
-
--- the cheapest set that works, over the switches of the list, and like D elsewhere; a set that has the next switch comes first
-unfoldable pub best : Net → (ℕ → Bool) → List ℕ → Choice
-best net D [] = elim (works? net D) [ true ↦ chosen D | false ↦ nothing ]
-best net D (l ∷ ls) = cheaper net (best net (put D l true) ls) (best net (put D l false) ls)
-
 -- over all sets of operable switches
 unfoldable pub planned : Net → Choice
-planned net = best net (λ _. false) (operables net)
+planned net = best (setCost net) (works? net) (λ _. false) (operables net)
