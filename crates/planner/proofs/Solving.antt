@@ -7,7 +7,7 @@ use Prim.Native.Nat.{ℕ, zero, suc, _/_, _%_, _≤_, _<_}
 use native.Mathlib.Omega.{arith}
 use lib.Dec.{eqb}
 use lib.ListN.{length}
-use borrow.Author.Tests.{eqb-true, lt-ltb, le-ltb}
+use borrow.Author.Tests.{eqb-true, lt-ltb}
 use Rattle.network.specs.declared.Network.{Network}
 use Rattle.network_file.specs.Accepted.{WellFormed}
 use Rattle.feeding.specs.Acceptance.{Starts}
@@ -29,7 +29,7 @@ use Rattle.planning.specs.Choosing.{nothing, chosen, planned, Promised}
 use Rattle.planning.specs.Sets.{setOf, switchesOf, cheapestSet, choiceOf}
 use Rattle.planning.proofs.Choices.{PromisedChoice, planned-promised}
 use Rattle.planning.proofs.Rising.{at-member}
-use Rattle.planning.proofs.Scans.{choice-planned, cheapest-fair}
+use Rattle.planning.proofs.Scans.{choice-chosen, choice-nothing, choice-planned, cheapest-fair}
 use Rattle.printed.specs.Printing.{planWith, formOf}
 use Rattle.printed.proofs.Steps.{with-count, empty-steps, form-printed}
 use Rattle.sets.specs.Sets.{oneOf}
@@ -58,16 +58,6 @@ switches-inside net s l d =
     set-inside (at (operables net)) (length (operables net)) (net .grid .K) s l
     (λ j k. those-out (net .grid .K) (operable? net) _ (at-member (operables net) j k) .0) d
 
--- ---- what a cost stands for
-
-found-chosen : (net : Net) (b : Best) → b .cost < 18446744073709551615 → choiceOf net b ≡ chosen (switchesOf net (b .set))
-unfolding choiceOf
-found-chosen net b h = rw (lt-ltb (b .cost) 18446744073709551615 h, choiceOf)
-
-none-nothing : (net : Net) (b : Best) → 18446744073709551615 ≤ b .cost → choiceOf net b ≡ nothing
-unfolding choiceOf
-none-nothing net b h = rw (le-ltb (b .cost) 18446744073709551615 h, choiceOf)
-
 module _ (n : Network) (well : WellFormed n) where
   few : netOf n .grid .K ≤ 96
   unfolding netOf gridOf
@@ -82,10 +72,10 @@ module _ (n : Network) (well : WellFormed n) where
     best-planned = ap (choiceOf (netOf n)) is ∙ choice-planned (netOf n) few small
 
     planned-found : best .cost < 18446744073709551615 → planned (netOf n) ≡ chosen (switchesOf (netOf n) (best .set))
-    planned-found h = sym best-planned ∙ found-chosen (netOf n) best h
+    planned-found h = sym best-planned ∙ choice-chosen (netOf n) best h
 
     planned-nothing : 18446744073709551615 ≤ best .cost → planned (netOf n) ≡ nothing
-    planned-nothing h = sym best-planned ∙ none-nothing (netOf n) best h
+    planned-nothing h = sym best-planned ∙ choice-nothing (netOf n) best h
 
     best-cost : best .cost < 18446744073709551615 → best .cost ≡ setCost (netOf n) (switchesOf (netOf n) (best .set))
     best-cost h =

@@ -360,11 +360,11 @@ over-best net (l ∷ ls) i s h e =
 abbrev Fair : Net → Best → Type 0
 Fair net b = (b .cost ≡ 18446744073709551615) ⊎ (b .cost ≡ setCost net (switchesOf net (b .set)))
 
-choice-nothing : (net : Net) (b : Best) → b .cost ≡ 18446744073709551615 → choiceOf net b ≡ nothing
+pub choice-nothing : (net : Net) (b : Best) → 18446744073709551615 ≤ b .cost → choiceOf net b ≡ nothing
 unfolding choiceOf
-choice-nothing net b h = rw (le-ltb (b .cost) 18446744073709551615 (omega arith), choiceOf)
+choice-nothing net b h = rw (le-ltb (b .cost) 18446744073709551615 h, choiceOf)
 
-choice-chosen : (net : Net) (b : Best) → b .cost < 18446744073709551615 → choiceOf net b ≡ chosen (switchesOf net (b .set))
+pub choice-chosen : (net : Net) (b : Best) → b .cost < 18446744073709551615 → choiceOf net b ≡ chosen (switchesOf net (b .set))
 unfolding choiceOf
 choice-chosen net b h = rw (lt-ltb (b .cost) 18446744073709551615 h, choiceOf)
 
@@ -398,7 +398,7 @@ module _ (net : Net) (few : net .grid .K ≤ 96) (small : (l : ℕ) → l < net 
       go true t (inl e) u v =
           ap (choiceOf net) (kept-taken (price s) b s (omega (arith, below s)))
           ∙ choice-chosen net (record { cost = price s; set = s }) (below s)
-          ∙ sym (ap₂ (cheaperOf net) (choice-nothing net b e) (best-works net (switchesOf net s) t) ∙ cheaper-none (setCost net) (chosen (switchesOf net s)))
+          ∙ sym (ap₂ (cheaperOf net) (choice-nothing net b (omega (arith, e))) (best-works net (switchesOf net s) t) ∙ cheaper-none (setCost net) (chosen (switchesOf net s)))
       go true t (inr e) true v =
           ap (choiceOf net) (kept-taken (price s) b s (ltb-true _ _ v))
           ∙ choice-chosen net (record { cost = price s; set = s }) (below s)
@@ -433,7 +433,7 @@ module _ (net : Net) (few : net .grid .K ≤ 96) (small : (l : ℕ) → l < net 
 
   none-nothing : choiceOf net none ≡ nothing
   unfolding none
-  none-nothing = choice-nothing net none refl
+  none-nothing = choice-nothing net none (omega arith)
 
   pub choice-planned : choiceOf net (cheapestSet net) ≡ planned net
   unfolding cheapestSet planned setOf

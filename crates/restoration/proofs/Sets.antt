@@ -36,7 +36,7 @@ module _ (E K : ℕ) (flags from to closed : List ℕ) (reach : ConfigurationRea
           ap (λ (xs : List ℕ). isIn xs y) e ∙ isIn-bits 96 E _ y (omega (arith, reach .elements-fit)) k
           ∙ or-self (eqb (at flags y) 1) ∙ sound-flag (at flags y)
 
-ones : (x : ℕ) → x < 96 → isIn (replicate 96 1) x ≡ true
+pub ones : (x : ℕ) → x < 96 → isIn (replicate 96 1) x ≡ true
 ones x k = rw (getD-replicate {A = ℕ} 96 x 1 0 k)
 
 module _ (n : Network) (w : WellFormed n) where

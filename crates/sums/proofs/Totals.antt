@@ -1,12 +1,12 @@
 -- A sum over a set by one element more, and the three sums from the sets that the code makes: each set has the theory's elements.
 -- Assumes nothing.
 use mathlib.Core.Path.{_≡_, refl, ap, ap₂, _∙_}
-use mathlib.Core.Bool.{Bool, true, not, _&&_}
+use mathlib.Core.Bool.{Bool, not, _&&_}
 use mathlib.Core.List.{List}
 use Prim.Native.Nat.{ℕ, _+_, _<_}
 use native.Mathlib.Numerals.{add-one}
 use native.Mathlib.Omega.{arith}
-use lib.ListN.{replicate, getD-replicate}
+use lib.ListN.{replicate}
 use borrow.Author.Tests.{eq-eqb, ne-eqb}
 use Rattle.network.specs.declared.Network.{Network}
 use Rattle.network_file.specs.Accepted.{WellFormed}
@@ -18,7 +18,7 @@ use Rattle.feeding.proofs.Sums.{sumTo-no, sumTo-more, sumTo-ext}
 use Rattle.sets.specs.Sets.{butNot}
 use Rattle.restoration.specs.Living.{liveIn}
 use Rattle.restoration.proofs.Reach.{bits-long}
-use Rattle.restoration.proofs.Sets.{set-at, fits}
+use Rattle.restoration.proofs.Sets.{ones, set-at, fits}
 use Rattle.sums.specs.Sums.{LoadsReach, sumsAfter}
 use Rattle.sums.specs.declared.Sums.{Sums}
 
@@ -46,9 +46,6 @@ module _ (load has : List ℕ) where
       omega arith
 
 -- ---- the three sums
-
-ones : (x : ℕ) → x < 96 → isIn (replicate 96 1) x ≡ true
-ones x k = rw (getD-replicate {A = ℕ} 96 x 1 0 k)
 
 module _ (n : Network) (w : WellFormed n) where
   -- loads do not enter
