@@ -1,35 +1,57 @@
 #!/usr/bin/env python3
-"""Writes the network files of this folder from the tables of document 01, "Tried networks", and B as the standard input that the gate gives to `plan`."""
+"""Writes the files of this folder: the networks of document 01, "Tried networks", with plans for them, and the largest network with the longest plan; and
+the standard input that the gate gives to `plan` (B) and to `mark` (B with the plan of case 8)."""
 import os
 import struct
 
 OPEN, CLOSED = 1, 2
+SOURCE = 1
 
 
-def network(elements, links):
-    """Kind 1 head, kind 2 elements (load, capacity, flags), kind 3 links (two ends, form, cost), kind 4 end; two bytes a number, low byte first."""
-    records = [(1, len(elements), len(links))]
-    records += [(2, *element) for element in elements]
-    records += [(3, *link) for link in links]
-    records += [(4,)]
+def records(*records):
+    """A record is its length in bytes, its kind and its fields, two bytes a number, low byte first."""
     return b"".join(struct.pack(f"<{len(r) + 1}H", 2 * (len(r) + 1), *r) for r in records)
 
 
-NETWORKS = {
-    "b.net": network(
-        [(0, 5, 1), (2, 9, 0), (1, 9, 2), (3, 9, 0), (0, 3, 1)],
-        [(0, 1, CLOSED, 1), (1, 2, OPEN, 1), (2, 3, OPEN, 1), (3, 4, OPEN, 4), (1, 3, OPEN, 2)],
-    ),
-    "d.net": network(
-        [(0, 2, 1), (2, 9, 0), (2, 9, 0), (0, 2, 1)],
-        [(0, 1, OPEN, 1), (1, 2, CLOSED, 1), (2, 3, OPEN, 1)],
-    ),
-}
+def network(elements, links):
+    """Kind 1 head, kind 2 elements (load, capacity, flags), kind 3 links (two ends, form, cost), kind 4 end."""
+    return records((1, len(elements), len(links)), *((2, *e) for e in elements), *((3, *l) for l in links), (4,))
+
+
+def plan(*steps):
+    """Kind 5 head, kind 6 steps (link, 1 to close it and 0 to open it), kind 4 end."""
+    return records((5, len(steps)), *((6, *s) for s in steps), (4,))
+
+
+def largest():
+    """64 elements in a chain of 53 behind one source and 11 dark ones, 96 links, 12 operable switches (links 52 to 63); 255 steps of cost 1 that are all
+    good: close the tie of each dark element, then open and close the last of them 122 times. VALID 255 244."""
+    elements = [(1, 64, SOURCE)] + [(1, 64, 0)] * 63
+    links = [(i, i + 1, CLOSED, 1) for i in range(52)]
+    links += [(i, 53 + i, OPEN, 1) for i in range(11)] + [(20, 63, OPEN, 1)]
+    links += [(i, i + 2, OPEN, 1) for i in range(32)]
+    steps = [(52 + i, 1) for i in range(11)] + [(62, 0), (62, 1)] * 122
+    return network(elements, links), plan(*steps)
+
+
+B = network(
+    [(0, 5, 1), (2, 9, 0), (1, 9, 2), (3, 9, 0), (0, 3, 1)],
+    [(0, 1, CLOSED, 1), (1, 2, OPEN, 1), (2, 3, OPEN, 1), (3, 4, OPEN, 4), (1, 3, OPEN, 2)],
+)
+D = network(
+    [(0, 2, 1), (2, 9, 0), (2, 9, 0), (0, 2, 1)],
+    [(0, 1, OPEN, 1), (1, 2, CLOSED, 1), (2, 3, OPEN, 1)],
+)
+CLOSE_3 = plan((3, 1))
+LARGEST, LONGEST = largest()
+FILES = {"b.net": B, "d.net": D, "close_3.plan": CLOSE_3, "largest.net": LARGEST, "largest.plan": LONGEST}
 
 if __name__ == "__main__":
     folder = os.path.dirname(os.path.abspath(__file__))
-    files = {os.path.join(folder, name): data for name, data in NETWORKS.items()}
-    files[os.path.join(folder, "..", "crates", "plan", "stdin")] = NETWORKS["b.net"]
+    crates = os.path.join(folder, "..", "crates")
+    files = {os.path.join(folder, name): data for name, data in FILES.items()}
+    files[os.path.join(crates, "plan", "stdin")] = B
+    files[os.path.join(crates, "mark", "stdin")] = B + CLOSE_3
     for path, data in files.items():
         with open(path, "wb") as file:
             file.write(data)

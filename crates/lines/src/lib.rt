@@ -1,63 +1,16 @@
 // The planner's printed lines, into the front of a lent array.
-use network::refusal;
-use network::refusal::Refusal;
 use plan_file::plan::Plan;
 use sums::Sums;
+use texts::put_feed;
+use texts::put_field;
+use texts::put_line;
+use texts::put_text;
 ghost use mathlib.Core.Path.{_≡_};
 ghost use Prim.Native.Nat.{_+_, _*_, _≤_};
-ghost use mathlib.Core.List.{[], _∷_};
 ghost use lib.ListN.{length};
 ghost use lib.Seq.{sets};
-ghost use Rattle.lines.specs.Lines.{decimal, field, stepWord, stepLine, stepLines, planLine, loadLine};
-ghost use Rattle.lines.specs.Lines.{planLines, noneLines, refusedLine, inFront};
-
-// A fixed text.
-fn put_text(out: &mut [u8], at: usize, text: &[u8]) -> usize
-    requires { ⌜ at + length (now text) ≤ length (now out) ⌝ }
-    ensures { λ r. ⌜ r ≡ at + length (now (text .entry)) ⌝ }
-    ensures { λ _. ⌜ now (out .exit) ≡ sets (now (out .entry)) at (now (text .entry)) ⌝ }
-{
-    let mut i: usize = 0;
-    while i < text.len() {
-        out[at + i] = text[i];
-        i += 1;
-    }
-    at + i
-}
-
-// A number in base ten, without leading zeros.
-fn put_number(out: &mut [u8], at: usize, n: u64) -> usize
-    requires { ⌜ at + length (decimal n) ≤ length (now out) ⌝ }
-    ensures { λ r. ⌜ r ≡ at + length (decimal n) ⌝ }
-    ensures { λ _. ⌜ now (out .exit) ≡ sets (now (out .entry)) at (decimal n) ⌝ }
-{
-    if n < 10 {
-        out[at] = 48 + n as u8;
-        return at + 1;
-    }
-    let next = put_number(out, at, n / 10);
-    out[next] = 48 + (n % 10) as u8;
-    next + 1
-}
-
-// A blank and a number.
-fn put_field(out: &mut [u8], at: usize, n: u64) -> usize
-    requires { ⌜ at + length (field n) ≤ length (now out) ⌝ }
-    ensures { λ r. ⌜ r ≡ at + length (field n) ⌝ }
-    ensures { λ _. ⌜ now (out .exit) ≡ sets (now (out .entry)) at (field n) ⌝ }
-{
-    out[at] = 32;
-    put_number(out, at + 1, n)
-}
-
-fn put_feed(out: &mut [u8], at: usize) -> usize
-    requires { ⌜ at + 1 ≤ length (now out) ⌝ }
-    ensures { λ r. ⌜ r ≡ at + 1 ⌝ }
-    ensures { λ _. ⌜ now (out .exit) ≡ sets (now (out .entry)) at (10 ∷ []) ⌝ }
-{
-    out[at] = 10;
-    at + 1
-}
+ghost use Rattle.texts.specs.Texts.{inFront};
+ghost use Rattle.lines.specs.Lines.{stepWord, stepLine, stepLines, loadLine, planLines, noneLines};
 
 // The word of a step.
 fn put_word(out: &mut [u8], at: usize, close: bool) -> usize
@@ -102,18 +55,6 @@ fn put_steps(out: &mut [u8], at: usize, plan: Plan) -> usize
     next
 }
 
-// `PLAN steps cost`.
-fn put_plan(out: &mut [u8], at: usize, steps: u64, cost: u64) -> usize
-    requires { ⌜ at + 47 ≤ length (now out) ⌝ }
-    ensures { λ r. ⌜ r ≡ at + length (planLine steps cost) ⌝ }
-    ensures { λ _. ⌜ now (out .exit) ≡ sets (now (out .entry)) at (planLine steps cost) ⌝ }
-{
-    let word = put_text(out, at, b"PLAN");
-    let first = put_field(out, word, steps);
-    let second = put_field(out, first, cost);
-    put_feed(out, second)
-}
-
 // `LOAD fed dark lost`.
 fn put_load(out: &mut [u8], at: usize, sums: Sums) -> usize
     requires { ⌜ at + 68 ≤ length (now out) ⌝ }
@@ -133,7 +74,7 @@ pub fn plan_lines(plan: Plan, cost: u64, sums: Sums, out: &mut [u8; 4096]) -> us
     ensures { λ _. ⌜ now (out .exit) ≡ inFront (planLines plan cost sums) (now (out .entry)) ⌝ }
 {
     let steps = plan.steps as u64;
-    let first = put_plan(out, 0, steps, cost);
+    let first = put_line(out, 0, b"PLAN", steps, cost);
     let second = put_steps(out, first, plan);
     put_load(out, second, sums)
 }
@@ -146,18 +87,4 @@ pub fn none_lines(sums: Sums, out: &mut [u8; 4096]) -> usize
     let word = put_text(out, 0, b"NONE");
     let first = put_feed(out, word);
     put_load(out, first, sums)
-}
-
-// `REFUSED number place`, the only line.
-pub fn refused_line(refused: Refusal, out: &mut [u8; 4096]) -> usize
-    ensures { λ r. ⌜ r ≡ length (refusedLine refused) ⌝ }
-    ensures { λ _. ⌜ now (out .exit) ≡ inFront (refusedLine refused) (now (out .entry)) ⌝ }
-{
-    let rule = refused.rule;
-    let number = refusal::number(rule) as u64;
-    let place = refused.place as u64;
-    let word = put_text(out, 0, b"REFUSED");
-    let first = put_field(out, word, number);
-    let second = put_field(out, first, place);
-    put_feed(out, second)
 }

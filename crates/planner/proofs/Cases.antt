@@ -8,7 +8,8 @@ use Rattle.plan_writer.specs.declared.Written.{Written}
 use Rattle.plan_writer.specs.declared.Written.the-variants as Written·
 use Rattle.plan_writer.specs.Writing.{written, bufferAfter}
 use Rattle.sums.specs.declared.Sums.{Sums}
-use Rattle.lines.specs.Lines.{planLines, noneLines, refusedLine}
+use Rattle.texts.specs.Texts.{refusedLine}
+use Rattle.lines.specs.Lines.{planLines, noneLines}
 use Rattle.planner.specs.declared.Planned.{Planned}
 use Rattle.planner.specs.declared.Reply.{Reply}
 use Rattle.planner.specs.declared.Reply.the-variants as Reply·

@@ -27,7 +27,7 @@ use Rattle.planner.specs.declared.Planned.{Planned}
 use Rattle.planner.specs.declared.Reply.{Reply}
 use Rattle.planner.specs.declared.Reply.the-variants as Reply·
 use Rattle.planner.specs.Replies.{outcomeRead, outcomeAnswered, outcome}
-use Rattle.planner.specs.Promises.{Accepts, Refuses, CostsLeast}
+use Rattle.planner.specs.Promises.{Accepts, Refuses}
 use Rattle.planner.proofs.Promises.{outcome-kept}
 
 -- ---- one judgement of the bytes
@@ -86,10 +86,7 @@ pub outcome-decided : (s : List ℕ) → outcome (take 4096 s) ≡ outcome s
 unfolding outcome
 outcome-decided s = ap (λ (o : Runs.Outcome Network). outcomeRead (acceptedRead (networkRead o))) (network-decided s)
 
--- ---- one cheapest cost, and one promised plan
-
-pub cheapest-unique : (net : Net) (a b : ℕ) → CostsLeast net a → CostsLeast net b → a ≡ b
-cheapest-unique net a b x y = omega (arith, x .own, y .own, x .least (y .plan) (y .valid), y .least (x .plan) (x .valid))
+-- ---- one promised plan
 
 -- no two sets come before each other
 before-once : (D D′ : ℕ → Bool) → Before D D′ → ¬ Before D′ D

@@ -7,7 +7,7 @@ use mathlib.Core.Logic.{inl, inr}
 use Prim.Native.Nat.{ℕ, zero, suc, _+_, _*_, _≤_, _<_}
 use native.Mathlib.Omega.{arith}
 use lib.Dec.{ltb}
-use lib.ListN.{length, getD, drop, length-append, length-take}
+use lib.ListN.{length, getD, drop, length-append}
 use borrow.Author.Tests.{ltb-true, ltb-false}
 use Rattle.network.specs.declared.Network.{Network}
 use Rattle.network.specs.declared.refusal.Refusal.{Refusal}
@@ -37,6 +37,7 @@ use Rattle.printed.specs.Printing.{planWith, stepsTo, stepsOf}
 use Rattle.printed.proofs.Steps.{steps-with, printed-length}
 use Rattle.sums.specs.declared.Sums.{Sums}
 use Rattle.sums.specs.Sums.{sumsAfter}
+use Rattle.texts.proofs.Pieces.{front-counted}
 use Rattle.planner.specs.declared.Planned.{Planned}
 use Rattle.planner.specs.declared.Reply.{Reply}
 use Rattle.planner.specs.declared.Reply.the-variants as Reply·
@@ -44,7 +45,7 @@ use Rattle.planner.specs.declared.Outcome.{Outcome}
 use Rattle.planner.specs.declared.Cheapest.{Cheapest}
 use Rattle.planner.specs.declared.Cheapest.the-variants as Cheapest·
 use Rattle.planner.specs.Replies.{plannedBy, unplanned, outcomeFrom, outcomeOf, outcomeAnswered, outcomeRead, outcome, linesOf}
-use Rattle.lines.specs.Lines.{inFront, Counted}
+use Rattle.texts.specs.Texts.{inFront, Counted}
 use Rattle.planner.specs.Replies.{replyWritten, replyWith, replyFor, bufferWith, bufferFor}
 use Rattle.planner.specs.Promises.{Accepts, Refuses, LoadsIn, PlanKept, NoneKept, OutcomeKept}
 use Rattle.planner.specs.Promises.{PlanWritten, RefusalWritten, ReplyKept, CheapestIn, CheapestFor}
@@ -249,13 +250,6 @@ pub returned-kept : (s : List ℕ) → ((i : ℕ) → getD s i 0 < 256) → (buf
     → r ≡ replyFor (outcome s) buffer → after ≡ bufferFor (outcome s) buffer
     → (r ≡ replyFor (outcome s) buffer) × ((after ≡ bufferFor (outcome s) buffer) × ReplyKept s buffer r after)
 returned-kept s bytes buffer p q = (p, (q, rw (p, q) (reply-kept s bytes buffer)))
-
--- the text in front of a buffer is counted by its length
-front-counted : (text buffer : List ℕ) → Counted (length text) (inFront text buffer)
-unfolding inFront
-front-counted text buffer =
-    let long = length-append text (drop (length text) buffer) in
-    (omega (arith, long), omega (arith, long, length-take (length text) (text ++ drop (length text) buffer)))
 
 -- and those of `plan_text`, from the text that was put
 pub printed-kept : (s : List ℕ) → ((i : ℕ) → getD s i 0 < 256) → (buffer text : List ℕ) {r : ℕ} {after : List ℕ} → text ≡ linesOf (outcome s)

@@ -13,12 +13,12 @@ use Rattle.network.specs.Networks.{emptyNetwork}
 use Rattle.network_file.specs.declared.Answer.the-variants as Answer·
 use Rattle.feeding.specs.Networks.{Net, netOf}
 use Rattle.feeding.specs.Parts.{Config}
-use Rattle.feeding.specs.Plans.{Step, ValidPlan, costOf, run}
+use Rattle.feeding.specs.Plans.{run}
 use Rattle.feeding.specs.Restoration.{totalLoad, fedLoad, darkLoad, lostLoad}
 use Rattle.acceptance.specs.Reading.{Judged}
 use Rattle.plan_file.specs.declared.plan.Plan.{Plan}
 use Rattle.plan_writer.specs.Writing.{planBytes}
-use Rattle.planning.specs.Choosing.{Promised, NoPlan}
+use Rattle.planning.specs.Choosing.{Promised, NoPlan, CostsLeast}
 use Rattle.sums.specs.declared.Sums.{Sums}
 use Rattle.printed.specs.Printing.{stepsOf}
 use Rattle.planner.specs.declared.Planned.{Planned}
@@ -95,13 +95,6 @@ pub record ReplyKept (s before : List ℕ) (r : Reply) (after : List ℕ) : Type
   pub refused : (f : Refusal) → r ≡ Reply·.Refused f → RefusalWritten s before f after
 
 -- ---- the cheapest cost, for the judge
-
--- a valid plan has this cost, and no valid plan has less
-pub record CostsLeast (net : Net) (cost : ℕ) : Type 0 where
-  pub plan : List Step
-  pub valid : ValidPlan net plan
-  pub own : costOf net plan ≡ cost
-  pub least : (q : List Step) → ValidPlan net q → cost ≤ costOf net q
 
 -- of an accepted network
 abbrev pub CheapestIn : Net → Cheapest → Type 0

@@ -9,7 +9,7 @@ use Rattle.network_file.specs.declared.Answer.the-variants as Answer·
 use Rattle.network_file.specs.declared.NetworkRead.{NetworkRead}
 use Rattle.network_file.specs.Inputs.{networkInput, networkRead}
 use Rattle.feeding.specs.Networks.{netOf}
-use Rattle.feeding.specs.Plans.{Step, costOf, printedForm, flip, run}
+use Rattle.feeding.specs.Plans.{Step, costOf, printedForm, run}
 use Rattle.acceptance.specs.Reading.{acceptedRead}
 use Rattle.plan_file.specs.declared.plan.Plan.{Plan}
 use Rattle.plan_file.specs.PlanFiles.{emptyPlan}
@@ -19,7 +19,8 @@ use Rattle.plan_writer.specs.Writing.{written, bufferAfter}
 use Rattle.planning.specs.Choosing.{Choice, nothing, chosen, planned}
 use Rattle.sums.specs.Sums.{sumsAfter}
 use Rattle.printed.specs.Printing.{planWith}
-use Rattle.lines.specs.Lines.{planLines, noneLines, refusedLine}
+use Rattle.texts.specs.Texts.{refusedLine}
+use Rattle.lines.specs.Lines.{planLines, noneLines}
 use Rattle.planner.specs.declared.Planned.{Planned}
 use Rattle.planner.specs.declared.Reply.{Reply}
 use Rattle.planner.specs.declared.Reply.the-variants as Reply·

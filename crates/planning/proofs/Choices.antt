@@ -19,7 +19,7 @@ use Rattle.feeding.proofs.Decided.{safe?-sound, safe?-complete}
 use Rattle.feeding.proofs.Lows.{those-in, those-out, those-rising}
 use Rattle.feeding.proofs.Printed.{printed-once, printed-run, printed-good, changed-operable, run-safe, plain, matched}
 use Rattle.feeding.proofs.Tests.{operable?-in, operable?-out, restored?-in, restored?-out}
-use Rattle.planning.specs.Choosing.{RestoresBy, Before, PickedBy, NoCheaperThanBy, PromisedBy, Promised, NoPlanBy, NoPlan}
+use Rattle.planning.specs.Choosing.{RestoresBy, Before, PickedBy, NoCheaperThanBy, PromisedBy, Promised, NoPlanBy, NoPlan, CostsLeastBy}
 use Rattle.planning.specs.Choosing.{Choice, nothing, chosen, works?, firstIf, cheaper, best, planned}
 
 -- ---- the one chosen of two costs at most either
@@ -348,3 +348,8 @@ planned-promised net formed start-safe =
     go : (c : Choice) → PromisedChoiceBy net (Operable net) (Restored net) (plain net) c → PromisedChoice net c
     go nothing p = p
     go (chosen D) p = p
+
+-- there is one cheapest cost
+pub cheapest-unique : (net : Net) (op : ℕ → Type 0) (goal : Config → Type 0) (price : List Step → ℕ) (a b : ℕ) → CostsLeastBy net op goal price a
+    → CostsLeastBy net op goal price b → a ≡ b
+cheapest-unique net op goal price a b x y = omega (arith, x .own, y .own, x .least (y .plan) (y .valid), y .least (x .plan) (x .valid))

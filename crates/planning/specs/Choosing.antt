@@ -61,6 +61,13 @@ pub record PromisedBy (net : Net) (op : ℕ → Type 0) (goal : Config → Type 
 abbrev pub NoPlanBy : (net : Net) (op : ℕ → Type 0) (goal : Config → Type 0) → Type 0
 NoPlanBy net op goal = (q : List Step) → ¬ Valid net op goal q
 
+-- a valid plan has this cost, and no valid plan has less
+pub record CostsLeastBy (net : Net) (op : ℕ → Type 0) (goal : Config → Type 0) (price : List Step → ℕ) (cost : ℕ) : Type 0 where
+  pub plan : List Step
+  pub valid : Valid net op goal plan
+  pub own : price plan ≡ cost
+  pub least : (q : List Step) → Valid net op goal q → cost ≤ price q
+
 -- ---- document 01: its operable switches, every restorable element live at the end, and the sum of the steps' costs
 
 abbrev pub Restores : Net → (ℕ → Bool) → Type 0
@@ -80,6 +87,9 @@ Promised net plan cost = PromisedBy net (Operable net) (Restored net) (costOf ne
 
 abbrev pub NoPlan : Net → Type 0
 NoPlan net = NoPlanBy net (Operable net) (Restored net)
+
+abbrev pub CostsLeast : Net → ℕ → Type 0
+CostsLeast net cost = CostsLeastBy net (Operable net) (Restored net) (costOf net) cost
 
 -- ---- what computes: the plain recursion over all sets of operable switches, for any cost of a set and any test of it
 

@@ -1,10 +1,10 @@
--- The starred cases of document 01 that are the planner's: from each network file's bytes, the definitions compute the printed bytes.
+-- The starred cases of document 01: from the bytes that each program reads, the definitions compute the bytes that it prints.
 -- Assumes nothing.
 use mathlib.Core.Path.{_≡_, refl}
 use mathlib.Core.List.{map}
 use Rattle.network.specs.Networks.{emptyNetwork}
 use Rattle.stages.specs.Stages.{nextStage}
-use Rattle.records.specs.Records.{word, lengthOf, frameRules, headRules, elementRules, linkRules, fieldRules, recordRules, dueAt}
+use Rattle.records.specs.Records.{word, lengthOf, frameRules, headRules, elementRules, linkRules, planHeadRules, stepRules, fieldRules, recordRules, dueAt}
 use Rattle.network_file.specs.Runs.{records}
 use Rattle.network_file.specs.NetworkFiles.{elementOf, linkOf, withElement, withLink, endOn, linksOn, elementsOn, networkFile}
 use Rattle.network_file.specs.Inputs.{networkInput, networkRead}
@@ -19,21 +19,28 @@ use Rattle.feeding.specs.Acceptance.{brokenAt, safety, limited, andThen, accept
 use Rattle.acceptance.specs.Reading.{handedOut, acceptedFrom, acceptedRead}
 use Rattle.planning.specs.Choosing.{works?, firstIf, cheaper, best, planned}
 use Rattle.sums.specs.Sums.{sumsAfter}
-use Rattle.plan_file.specs.PlanFiles.{emptyPlan}
-use Rattle.printed.specs.Printing.{withOne, planWith}
-use Rattle.plan_writer.specs.Writing.{endBytes}
-use Rattle.lines.specs.Lines.{digits, decimal, field, planLine, stepLine, stepLines, loadLine, planLines, noneLines, refusedLine}
+use Rattle.plan_file.specs.PlanFiles.{emptyPlan, withStep, planEndOn, stepsOn, planFile}
+use Rattle.plan_file.specs.Inputs.{planInput, planBehind, bothInput, bothRead}
+use Rattle.printed.specs.Printing.{withOne, planWith, stepsTo, stepsOf}
+use Rattle.plan_writer.specs.Writing.{planHeadBytes, stepBytes, endBytes}
+use Rattle.texts.specs.Texts.{digits, decimal, field, lineOf, refusedLine}
+use Rattle.lines.specs.Lines.{planLine, stepLine, stepLines, loadLine, planLines, noneLines}
 use Rattle.planner.specs.Replies.{plannedBy, unplanned, outcomeFrom, outcomeOf, outcomeAnswered, outcomeRead, outcome, linesWith, linesOf}
-use Rattle.starred.specs.Tables.{head, element, joins, networkB, networkD, text, prints, cases}
+use Rattle.marking.specs.Marks.{examined, firstBad, stepExamined, stepsExamined, darkPlace, costIn, cheapestCost, scored, markAt, markAfter, markOf}
+use Rattle.mark_lines.specs.MarkLines.{markLine}
+use Rattle.judge.specs.Judging.{markAccepted, markRead, markOfRead, markFor}
+use Rattle.starred.specs.Tables.{head, element, joins, networkB, networkD, noSteps, closing, text, prints, plans, marks, cases}
 
 -- the table is computed whole: the line names every definition from the reader of records to the printed lines
-pub tried : map (λ c. linesOf (outcome (c .file))) cases ≡ map (λ c. c .printed) cases
-unfolding emptyNetwork nextStage word lengthOf frameRules headRules elementRules linkRules fieldRules recordRules dueAt records elementOf
+pub tried : map (λ c. prints (c .program) (c .input)) cases ≡ map (λ c. c .printed) cases
+unfolding emptyNetwork nextStage word lengthOf frameRules headRules elementRules linkRules planHeadRules stepRules fieldRules recordRules dueAt records elementOf
     linkOf withElement withLink endOn linksOn elementsOn networkFile networkInput networkRead sumTo allTo anyTo leastTo lowestFrom lowest
     those tabulate gridOf netOf touches far relabel merge link labels label joined? sound? live? leads elementLoad above elementOver
     lowestOver loopAt looped? paired? faultLive? treePlace pairPlace faultPlace safe? spoiled? clean restorable? waits? operable? operables
     restored? fedLoad darkLoad lostLoad put run costOf sweep printedForm flip setCost brokenAt safety limited andThen acceptance handedOut
     acceptedFrom acceptedRead works? firstIf cheaper best planned sumsAfter emptyPlan withOne planWith endBytes digits decimal field planLine
     stepLine stepLines loadLine planLines noneLines refusedLine plannedBy unplanned outcomeFrom outcomeOf outcomeAnswered outcomeRead
-    outcome linesWith linesOf head element joins networkB networkD text prints cases
+    outcome linesWith linesOf withStep planEndOn stepsOn planFile planInput planBehind bothInput bothRead stepsTo stepsOf examined firstBad
+    stepExamined stepsExamined darkPlace costIn cheapestCost scored markAt markAfter markOf lineOf markLine markAccepted markRead markOfRead
+    markFor planHeadBytes stepBytes head element joins networkB networkD noSteps closing text prints plans marks cases
 tried = refl

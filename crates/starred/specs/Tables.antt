@@ -1,10 +1,14 @@
--- Document 01, "Tried networks": the starred cases of the planner as one table, each a network file's bytes and the bytes that are printed.
+-- Document 01, "Tried networks": the starred cases as one table, each a program, the bytes that it reads and the bytes that it prints.
 -- Assumes nothing.
+use mathlib.Core.Bool.{true}
 use mathlib.Core.List.{List, [], _∷_, _++_}
 use Prim.Native.Nat.{ℕ}
 use Prim.Native.Char.{code}
 use Prim.Native.String.{String, [] as empty, _∷_ as _before_}
-use Rattle.plan_writer.specs.Writing.{number, endBytes}
+use Rattle.plan_writer.specs.Writing.{number, planHeadBytes, stepBytes, endBytes}
+use Rattle.planner.specs.Replies.{outcome, linesOf}
+use Rattle.mark_lines.specs.MarkLines.{markLine}
+use Rattle.judge.specs.Judging.{markFor}
 
 -- ---- files
 
@@ -71,6 +75,15 @@ networkD =
     ++ joins 2 3 openSwitch 1
     ++ endBytes
 
+-- ---- plans
+
+-- a plan file without steps, and one that closes a link
+unfoldable pub noSteps : List ℕ
+noSteps = planHeadBytes 0 ++ endBytes
+
+unfoldable pub closing : ℕ → List ℕ
+closing link = planHeadBytes 1 ++ stepBytes link true ++ endBytes
+
 -- ---- cases
 
 -- the bytes of a text of ASCII characters: a character's number is its byte
@@ -78,31 +91,50 @@ unfoldable pub text : String → List ℕ
 text empty = []
 text (c before s) = code c ∷ text s
 
--- a network file, and what the planning program prints for it
+pub data Program : Type 0 where
+  planning : Program
+  judging : Program
+
+-- what a program prints for its input
+unfoldable pub prints : Program → List ℕ → List ℕ
+prints planning s = linesOf (outcome s)
+prints judging s = markLine (markFor s)
+
 pub record Case : Type 0 where
-  pub file : List ℕ
+  pub program : Program
+  pub input : List ℕ
   pub printed : List ℕ
 
--- a case by its file and the text of its lines
-unfoldable pub prints : List ℕ → String → Case
-prints file lines = record { file = file; printed = text lines }
+-- the planning program's lines for a network file
+unfoldable pub plans : List ℕ → String → Case
+plans file lines = record { program = planning; input = file; printed = text lines }
+
+-- the judging program's line for a network file with a plan file directly behind it
+unfoldable pub marks : List ℕ → List ℕ → String → Case
+marks file plan line = record { program = judging; input = file ++ plan; printed = text line }
 
 unfoldable pub cases : List Case
 cases =
     -- ★1. B
-    prints (networkB 5 3 openSwitch openSwitch 4) "PLAN 1 2\nCLOSE 4\nLOAD 5 0 1\n"
+    plans (networkB 5 3 openSwitch openSwitch 4) "PLAN 1 2\nCLOSE 4\nLOAD 5 0 1\n"
     -- ★2. B, capacity 4 at element 0: element 0 cannot carry 2 and 3
-    ∷ prints (networkB 4 3 openSwitch openSwitch 4) "PLAN 1 4\nCLOSE 3\nLOAD 5 0 1\n"
+    ∷ plans (networkB 4 3 openSwitch openSwitch 4) "PLAN 1 4\nCLOSE 3\nLOAD 5 0 1\n"
     -- ★3. as 2, with capacity 2 at element 4: neither source can carry element 3
-    ∷ prints (networkB 4 2 openSwitch openSwitch 4) "NONE\nLOAD 2 3 1\n"
+    ∷ plans (networkB 4 2 openSwitch openSwitch 4) "NONE\nLOAD 2 3 1\n"
     -- ★4. B, capacity 1 at element 0, which carries 2 at the start
-    ∷ prints (networkB 1 3 openSwitch openSwitch 4) "REFUSED 17 0\n"
+    ∷ plans (networkB 1 3 openSwitch openSwitch 4) "REFUSED 17 0\n"
     -- ★5. B, link 3 costing 2: "the tie goes to closing 3"
-    ∷ prints (networkB 5 3 openSwitch openSwitch 2) "PLAN 1 2\nCLOSE 3\nLOAD 5 0 1\n"
+    ∷ plans (networkB 5 3 openSwitch openSwitch 2) "PLAN 1 2\nCLOSE 3\nLOAD 5 0 1\n"
     -- ★6. D: link 1 is opened first, since neither source can carry both loads
-    ∷ prints networkD "PLAN 3 3\nOPEN 1\nCLOSE 0\nCLOSE 2\nLOAD 4 0 0\n"
+    ∷ plans networkD "PLAN 3 3\nOPEN 1\nCLOSE 0\nCLOSE 2\nLOAD 4 0 0\n"
+    -- ★7. D, submitted: close 0 first, which puts both loads on element 0
+    ∷ marks networkD (closing 0) "BROKEN 1 3\n"
+    -- ★8. B, submitted: close 3, where closing 4 costs 2
+    ∷ marks (networkB 5 3 openSwitch openSwitch 4) (closing 3) "VALID 4 2\n"
     -- ★9. B, link 2 closed: it is opened first, since it leads to the faulty element
-    ∷ prints (networkB 5 3 closedSwitch openSwitch 4) "PLAN 2 3\nOPEN 2\nCLOSE 4\nLOAD 5 0 1\n"
+    ∷ plans (networkB 5 3 closedSwitch openSwitch 4) "PLAN 2 3\nOPEN 2\nCLOSE 4\nLOAD 5 0 1\n"
     -- ★10. B, link 3 fixed, cost 0: element 3 is live at the start
-    ∷ prints (networkB 5 3 openSwitch fixedLink 0) "PLAN 0 0\nLOAD 5 0 1\n"
+    ∷ plans (networkB 5 3 openSwitch fixedLink 0) "PLAN 0 0\nLOAD 5 0 1\n"
+    -- ★11. B, empty submitted plan
+    ∷ marks (networkB 5 3 openSwitch openSwitch 4) noSteps "SHORT 3\n"
     ∷ []

@@ -1,7 +1,7 @@
 -- `lines::none_lines` meets its contract: the line of NONE and the line of the loads stand in front of the buffer.
 -- Assumes nothing.
 use native.Mathlib.Omega.{arith}
-use Rattle.lines.proofs.Texts.{none-lines-put, load-length}
+use Rattle.lines.proofs.Lines.{none-lines-put, load-length}
 use borrow.Author.Needs.{needs}
 use Rattle.lines.proofs.none_lines.Statement.{statement}
 use Rattle.lines.proofs.none_lines.Tie as tie

@@ -1,7 +1,8 @@
 -- `lines::put_load` meets its contract: word, three fields and line feed stored one behind the other are the line of the loads.
 -- Assumes nothing.
 use native.Mathlib.Omega.{arith}
-use Rattle.lines.proofs.Texts.{load-put, field-64}
+use Rattle.texts.proofs.Pieces.{line-three, field-64}
+use Rattle.lines.specs.Lines.{loadWord, loadLine}
 use borrow.Author.Needs.{needs}
 use Rattle.lines.proofs.put_load.Statement.{statement}
 use Rattle.lines.proofs.put_load.Tie as tie
@@ -36,13 +37,14 @@ same-length : tie.Need-same-length
 same-length c = search needs
 
 returns : tie.Need-returns
+unfolding loadLine
 returns c =
     let a = c .before .before .before .before .before .before .before .before .before .before .before .before .before .before .before .before .before .before .before .before .before .before .args in
     let word = c .before .before .before .before .before .before .before .before .before .before .before .before .before .before .before .before .before .before .put-text in
     let first = c .before .before .before .before .before .before .before .before .before .before .before .before .before .before .put-field in
     let second = c .before .before .before .before .before .before .before .before .before .before .put-field2 in
     let third = c .before .before .before .before .before .before .put-field3 in
-    load-put (a .out .now) _ _ _ _ _ (a .at) _ _ _ _ _ _ _ _ (a .sums) (word .ensures) (first .ensures)
+    line-three (a .out .now) _ _ _ _ _ (a .at) _ _ _ _ _ _ _ _ (a .sums .fed) (a .sums .dark) (a .sums .lost) loadWord (word .ensures) (first .ensures)
     (second .ensures) (third .ensures) (c .before .before .put-feed .ensures) (omega arith) (omega arith) (omega arith)
 
 pub put-load-spec : {M : Type 1} → statement M

@@ -1,7 +1,9 @@
 -- `lines::put_step` meets its contract: word, link and line feed stored one behind the other are the step's line.
 -- Assumes nothing.
 use native.Mathlib.Omega.{arith}
-use Rattle.lines.proofs.Texts.{step-put, word-length, field-16, step-length}
+use Rattle.texts.proofs.Pieces.{line-one, field-16}
+use Rattle.lines.specs.Lines.{stepWord, stepLine}
+use Rattle.lines.proofs.Lines.{word-length, step-length}
 use borrow.Author.Needs.{needs}
 use Rattle.lines.proofs.put_step.Statement.{statement}
 use Rattle.lines.proofs.put_step.Tie as tie
@@ -23,12 +25,13 @@ same-length : tie.Need-same-length
 same-length c = search needs
 
 returns : tie.Need-returns
+unfolding stepLine
 returns c =
     let a = c .before .before .before .before .before .before .before .before .before .before .before .before .before .args in
     let word = c .before .before .before .before .before .before .before .before .before .before .put-word in
     let first = c .before .before .before .before .before .before .put-field in
-    let line = step-put (a .out .now) _ _ _ (a .at) _ _ _ (a .link) (a .close) (word .ensures) (first .ensures)
-    (c .before .before .put-feed .ensures) in
+    let line = line-one (a .out .now) _ _ _ (a .at) _ _ _ _ (a .link) (stepWord (a .close)) (word .ensures) (first .ensures)
+    (c .before .before .put-feed .ensures) (omega arith) in
     (omega (arith, step-length (a .link) (a .close) (omega arith), line .0), line)
 
 pub put-step-spec : {M : Type 1} → statement M

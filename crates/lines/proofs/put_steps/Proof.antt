@@ -6,8 +6,9 @@ use native.Mathlib.Omega.{arith}
 use lib.ListN.{length}
 use borrow.Author.Needs.{needs}
 use Rattle.network.proofs.Stores.{stored-length}
+use Rattle.texts.proofs.Pieces.{Put}
 use Rattle.lines.specs.Lines.{stepLines}
-use Rattle.lines.proofs.Texts.{Put, steps-put, steps-start}
+use Rattle.lines.proofs.Lines.{steps-put, steps-start}
 use Rattle.lines.proofs.put_steps.Statement.{statement}
 use Rattle.lines.proofs.put_steps.Tie as tie
 

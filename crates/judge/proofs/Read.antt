@@ -1,0 +1,36 @@
+-- What an accepted input promises of its network and its plan: both files were read whole, so each is well formed.
+-- Assumes nothing.
+use mathlib.Core.Path.{_≡_, refl, sym, ap, _∙_, subst}
+use mathlib.Core.List.{List}
+use Prim.Native.Nat.{ℕ, _<_}
+use native.Mathlib.Omega.{arith}
+use lib.ListN.{getD}
+use Rattle.network.specs.declared.Network.{Network}
+use Rattle.network_file.specs.declared.Answer.the-variants.{Accepted}
+use Rattle.network_file.specs.Accepted.{WellFormed}
+use Rattle.network_file.specs.Runs.{Outcome, refused, reached}
+use Rattle.network_file.proofs.Accepted.{network-well-formed}
+use Rattle.plan_file.specs.declared.plan.Plan.{Plan}
+use Rattle.plan_file.specs.declared.BothRead.{BothRead}
+use Rattle.plan_file.specs.Accepted.{WellFormedPlan}
+use Rattle.plan_file.specs.Inputs.{bothInput, bothRead}
+use Rattle.plan_file.proofs.Accepted.{plan-well-formed}
+use Rattle.plan_file.proofs.Sizes.{both-size}
+
+-- the network is well formed, and so is the plan in it
+pub record BothFormed (r : BothRead) : Type 0 where
+  pub net : WellFormed (r .net)
+  pub plan : WellFormedPlan (r .net .links) (r .plan)
+
+pub both-formed : (s : List ℕ) → ((i : ℕ) → getD s i 0 < 256) → (r : BothRead) → r ≡ bothRead (bothInput s) → r .answer ≡ Accepted → BothFormed r
+unfolding bothRead
+both-formed s bytes r e a = subst BothFormed (sym e) (go (bothInput s) refl (sym (ap (λ (x : BothRead). x .answer) e) ∙ a))
+  where
+    go : (o : Outcome (Network × Plan)) → bothInput s ≡ o → bothRead o .answer ≡ Accepted → BothFormed (bothRead o)
+    go (refused f) h k = let z : _≡_ {A = ℕ} 0 1 = cc in absurd (omega arith)
+    go (reached at stage v) h k =
+        let size = both-size s at stage (v .0) (v .1) h in
+        record {
+          net = network-well-formed s (size .middle) (size .due) (v .0) bytes (size .network);
+          plan = plan-well-formed s (v .0 .links) (size .middle) at stage (v .1) (size .plan);
+        }

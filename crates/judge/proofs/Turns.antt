@@ -1,0 +1,138 @@
+-- Each way through the judge's functions ends in the mark that the definition gives. By the laws of `marking`, and of the planner by `CheapestIn` alone.
+-- Assumes nothing.
+use mathlib.Core.Path.{_≡_, sym, ap, _∙_, subst}
+use mathlib.Core.List.{List}
+use Prim.Native.Nat.{ℕ, _-_, _<_, _≤_}
+use native.Mathlib.Omega.{arith}
+use lib.ListN.{length, getD}
+use borrow.Author.Tests.{lt-ltb, le-ltb}
+use Rattle.network.specs.declared.Network.{Network}
+use Rattle.network.specs.declared.refusal.Refusal.{Refusal}
+use Rattle.network_file.specs.declared.Answer.{Answer}
+use Rattle.network_file.specs.declared.Answer.the-variants.{Accepted, Refused}
+use Rattle.network_file.specs.Accepted.{WellFormed}
+use Rattle.plan_file.specs.declared.BothRead.{BothRead}
+use Rattle.plan_file.specs.Accepted.{WellFormedPlan}
+use Rattle.plan_file.specs.Inputs.{bothInput, bothRead}
+use Rattle.feeding.specs.Networks.{Net, netOf}
+use Rattle.feeding.specs.Acceptance.{Starts, answerTo}
+use Rattle.feeding.specs.Plans.{Step, Good, ValidPlan, run, costOf}
+use Rattle.feeding.specs.Restoration.{Operable, operable?}
+use Rattle.feeding.proofs.Tests.{operable?-in, operable?-out}
+use Rattle.feeding.proofs.Views.{formed-net, accepted-starts}
+use Rattle.printed.specs.Printing.{stepsOf}
+use Rattle.planner.specs.declared.Cheapest.{Cheapest}
+use Rattle.planner.specs.declared.Cheapest.the-variants as Cheapest·
+use Rattle.planner.specs.Promises.{CheapestIn}
+use Rattle.marking.specs.declared.BadStep.{BadStep}
+use Rattle.marking.specs.declared.Examined.{Examined}
+use Rattle.marking.specs.declared.Examined.the-variants.{AllGood, Bad}
+use Rattle.marking.specs.declared.Mark.{Mark}
+use Rattle.marking.specs.declared.Mark.the-variants as Mark·
+use Rattle.marking.specs.Marks.{stepsExamined, darkPlace, scored, markAt, markAfter, markOf}
+use Rattle.marking.proofs.Examining.{examined-good}
+use Rattle.marking.proofs.Marking.{dark-restored, score-is, score-room}
+use Rattle.texts.specs.Texts.{inFront, Counted}
+use Rattle.texts.proofs.Pieces.{front-counted}
+use Rattle.mark_lines.specs.MarkLines.{markLine}
+use Rattle.judge.specs.Judging.{MarkKept, markAccepted, markRead, markOfRead, markFor}
+use Rattle.judge.proofs.Kept.{mark-kept}
+use Rattle.judge.proofs.Read.{both-formed}
+
+-- ---- a valid plan, its cost and the cheapest one
+
+module _ (n : Network) (q : List Step) (w : WellFormed n) (st : Starts (netOf n)) (v : ValidPlan (netOf n) q) (cost : ℕ) (own : cost ≡ costOf (netOf n) q)
+    (r : Cheapest) (is : CheapestIn (netOf n) r) where
+  pub least-room : (least : ℕ) → r ≡ Cheapest·.Cost least → least ≤ cost
+  least-room least e = score-room (netOf n) (formed-net n w) (st .safe) q v cost least own (subst (CheapestIn (netOf n)) e is)
+
+  pub cost-scored : (least : ℕ) → r ≡ Cheapest·.Cost least → Mark·.Valid (record { cost = cost; excess = cost - least }) ≡ scored (netOf n) q
+  cost-scored least e = score-is (netOf n) (formed-net n w) (st .safe) q v cost least own (subst (CheapestIn (netOf n)) e is)
+
+  -- there is a valid plan, so neither of the other answers is given
+  pub none-scored : r ≡ Cheapest·.NoPlan → (m : Mark) → m ≡ scored (netOf n) q
+  none-scored e m = absurd (subst (CheapestIn (netOf n)) e is q v)
+
+  pub refused-scored : (f : Refusal) → r ≡ Cheapest·.Refused f → (m : Mark) → m ≡ scored (netOf n) q
+  refused-scored f e m = absurd (subst (CheapestIn (netOf n)) e is)
+
+-- ---- all steps are good
+
+module _ (net : Net) (q : List Step) (place dark : ℕ) (is : dark ≡ place) where
+  pub short-at : dark < net .grid .E → Mark·.Short dark ≡ markAt net q place
+  unfolding markAt
+  short-at h = rw (lt-ltb place (net .grid .E) (omega arith), markAt) (ap Mark·.Short is)
+
+  pub scored-at : net .grid .E ≤ dark → (m : Mark) → m ≡ scored net q → m ≡ markAt net q place
+  unfolding markAt
+  scored-at h m e = rw (le-ltb place (net .grid .E) (omega arith), markAt) e
+
+pub good-valid : (n : Network) (q : List Step) (dark : ℕ) → WellFormed n → Good (netOf n) (Operable (netOf n)) (netOf n .startClosed) q
+    → dark ≡ darkPlace (netOf n) (run (netOf n .startClosed) q) → netOf n .grid .E ≤ dark → ValidPlan (netOf n) q
+good-valid n q dark w good is h = record { good = good; meets = dark-restored (netOf n) (formed-net n w) (run (netOf n .startClosed) q) (omega arith) }
+
+-- ---- what the steps are found to be
+
+module _ (n : Network) (q : List Step) (x : Examined) (is : x ≡ stepsExamined (netOf n) (operable? (netOf n)) (netOf n .startClosed) 1 q) where
+  pub broken-mark : (b : BadStep) → x ≡ Bad b → Mark·.Broken b ≡ markOf (netOf n) q
+  unfolding markOf markAfter
+  broken-mark b e = ap (markAfter (netOf n) q) (sym e ∙ is)
+
+  pub good-mark : x ≡ AllGood → (m : Mark) → m ≡ markAt (netOf n) q (darkPlace (netOf n) (run (netOf n .startClosed) q)) → m ≡ markOf (netOf n) q
+  unfolding markOf markAfter
+  good-mark e m h = h ∙ ap (markAfter (netOf n) q) (sym e ∙ is)
+
+  pub all-good : WellFormed n → x ≡ AllGood → Good (netOf n) (Operable (netOf n)) (netOf n .startClosed) q
+  all-good w e =
+      let formed = formed-net n w in
+      examined-good (netOf n) formed (Operable (netOf n)) (operable? (netOf n)) (operable?-in (netOf n) formed) (operable?-out (netOf n) formed) (netOf n .startClosed) 1 q
+      (sym is ∙ e)
+
+-- ---- what was read
+
+module _ (s : List ℕ) (bytes : (i : ℕ) → getD s i 0 < 256) (read : BothRead) (is : read ≡ bothRead (bothInput s)) where
+  -- the mark, and what it keeps
+  pub returned : (m : Mark) → m ≡ markFor s → (m ≡ markFor s) × MarkKept s m
+  returned m e = (e, subst (MarkKept s) (sym e) (mark-kept s bytes))
+
+  pub unread-mark : (f : Refusal) → read .answer ≡ Refused f → Mark·.Refused f ≡ markFor s
+  unfolding markFor markOfRead markRead
+  unread-mark f e = ap (markRead (read .net) (read .plan)) (sym e) ∙ ap markOfRead is
+
+  module _ (ok : read .answer ≡ Accepted) (a : Answer) (start : a ≡ answerTo (read .net)) where
+    accepted-mark : markAccepted (read .net) (read .plan) a ≡ markFor s
+    unfolding markFor markOfRead markRead
+    accepted-mark =
+        ap (markAccepted (read .net) (read .plan)) start ∙ ap (markRead (read .net) (read .plan)) (sym ok) ∙ ap markOfRead is
+
+    pub unaccepted-mark : (f : Refusal) → a ≡ Refused f → Mark·.Refused f ≡ markFor s
+    unfolding markAccepted
+    unaccepted-mark f e = ap (markAccepted (read .net) (read .plan)) (sym e) ∙ accepted-mark
+
+    pub plan-mark : a ≡ Accepted → (m : Mark) → m ≡ markOf (netOf (read .net)) (stepsOf (read .plan)) → m ≡ markFor s
+    unfolding markAccepted
+    plan-mark e m h = h ∙ ap (markAccepted (read .net) (read .plan)) (sym e) ∙ accepted-mark
+
+    pub read-starts : a ≡ Accepted → WellFormed (read .net) × Starts (netOf (read .net))
+    read-starts e =
+        let w = both-formed s bytes read is ok .net in
+        (w, accepted-starts (read .net) w (sym start ∙ e))
+
+    pub read-plan : WellFormedPlan (read .net .links) (read .plan)
+    read-plan = both-formed s bytes read is ok .plan
+
+  pub read-network : read .answer ≡ Accepted → WellFormed (read .net)
+  read-network ok = both-formed s bytes read is ok .net
+
+-- ---- the mark's line
+
+pub printed-mark : (s : List ℕ) (m : Mark) (buffer : List ℕ) {r : ℕ} {after : List ℕ} → (m ≡ markFor s) × MarkKept s m
+    → (r ≡ length (markLine m)) × (after ≡ inFront (markLine m) buffer)
+    → (r ≡ length (markLine (markFor s))) × ((after ≡ inFront (markLine (markFor s)) buffer) × (Counted r after × MarkKept s (markFor s)))
+printed-mark s m buffer h put = (
+  put .0 ∙ ap (λ (x : Mark). length (markLine x)) (h .0),
+  (
+    put .1 ∙ ap (λ (x : Mark). inFront (markLine x) buffer) (h .0),
+    (rw (put .0, put .1) (front-counted (markLine m) buffer), subst (MarkKept s) (h .0) (h .1)),
+  ),
+)

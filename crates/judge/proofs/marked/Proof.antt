@@ -1,0 +1,43 @@
+-- `judge::marked` meets its contract: the first bad step decides, and where there is none the steps are good.
+-- Assumes nothing.
+use Rattle.printed.specs.Printing.{stepsOf}
+use Rattle.judge.proofs.Turns.{broken-mark, good-mark, all-good}
+use borrow.Author.Needs.{needs}
+use Rattle.judge.proofs.marked.Statement.{statement}
+use Rattle.judge.proofs.marked.Tie as tie
+
+examine-requires : tie.Need-examine-requires
+examine-requires c κs =
+    search needs
+
+enum-known-examined : tie.Need-enum-known-examined
+enum-known-examined c =
+    search needs
+
+enum-told : tie.Need-enum-told
+enum-told c =
+    search needs
+
+finished-requires : tie.Need-finished-requires
+finished-requires c κs =
+    let pre· = c .before .before .before .pre in
+    let args· = c .before .before .before .args in
+    let examine· = c .before .before .examine in
+    (pre· .0, (pre· .1, all-good (args· .net) (stepsOf (args· .plan)) (examine· .result) (examine· .ensures) (pre· .0 .0) (c .enum-told .given .1)))
+
+returns : tie.Need-returns
+returns c =
+    let args· = c .before .before .before .before .args in
+    let examine· = c .before .before .before .examine in
+    broken-mark (args· .net) (stepsOf (args· .plan)) (examine· .result) (examine· .ensures) _ (c .before .examined .given .1)
+
+returns-2 : tie.Need-returns-2
+returns-2 c =
+    let args· = c .before .before .before .before .args in
+    let examine· = c .before .before .before .examine in
+    good-mark (args· .net) (stepsOf (args· .plan)) (examine· .result) (examine· .ensures) (c .before .enum-told .given .1) _ (c .finished .ensures)
+
+pub marked-spec : {M : Type 1} → statement M
+marked-spec =
+    tie.close
+    (tie.spec examine-requires enum-known-examined enum-told finished-requires returns returns-2)

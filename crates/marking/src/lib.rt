@@ -1,0 +1,34 @@
+// What the judge says of a submitted plan: document 01's marks, and their laws; no function.
+use network::refusal::Refusal;
+
+// Why a step is bad.
+pub enum Reason {
+    NotOperable,
+    AlreadySo,
+    Unsafe,
+}
+
+// A bad step: its number, from 1 on, and the lowest reason that fits.
+pub struct BadStep {
+    pub step: usize,
+    pub reason: Reason,
+}
+
+// What the steps of a plan are found to be: the first bad one decides.
+pub enum Examined {
+    AllGood,
+    Bad(BadStep),
+}
+
+// What a valid plan costs, and how much of it is above the cheapest cost.
+pub struct Score {
+    pub cost: u64,
+    pub excess: u64,
+}
+
+pub enum Mark {
+    Broken(BadStep),
+    Short(usize),
+    Valid(Score),
+    Refused(Refusal),
+}

@@ -1,0 +1,200 @@
+-- The examination of a plan's steps: one step by its tests, the turns of the loop, whose rest gives the whole answer, and its end.
+-- Assumes nothing.
+use mathlib.Core.Path.{_≡_, refl, sym, ap, ap₂, _∙_}
+use mathlib.Core.Bool.{Bool, true, false, not, _&&_}
+use mathlib.Core.List.{List, [], _∷_}
+use Prim.Native.Nat.{ℕ, suc, _+_, _≤_, _<_}
+use native.Mathlib.Numerals.{add-one}
+use native.Mathlib.Omega.{arith}
+use lib.Dec.{eqb, ltb}
+use lib.ListN.{length, set, getD, length-set, List·getD-eq-default}
+use lib.Seq.{getD-set-same, getD-set-other}
+use borrow.Author.Tests.{eqb-true, eqb-false, eq-eqb, ne-eqb, ltb-true, ltb-false}
+use Rattle.network.specs.declared.Network.{Network}
+use Rattle.network.specs.declared.refusal.Refusal.{Refusal}
+use Rattle.network_file.specs.declared.Answer.{Answer}
+use Rattle.network_file.specs.declared.Answer.the-variants.{Accepted, Refused}
+use Rattle.network_file.specs.Accepted.{WellFormed}
+use Rattle.plan_file.specs.declared.plan.Plan.{Plan}
+use Rattle.plan_file.specs.Accepted.{WellFormedPlan}
+use Rattle.plan_writer.specs.Writing.{stateNumber}
+use Rattle.plan_writer.proofs.RoundTrip.{state-small}
+use Rattle.feeding.specs.Acceptance.{safety}
+use Rattle.feeding.specs.Below.{bits}
+use Rattle.feeding.specs.Networks.{Net, Formed, netOf, gridOf, at}
+use Rattle.feeding.specs.Parts.{Config, closedIn}
+use Rattle.feeding.specs.Plans.{Step, put, differ}
+use Rattle.feeding.specs.Restoration.{operable?}
+use Rattle.feeding.specs.Safety.{safe?}
+use Rattle.feeding.proofs.Below.{gate-le}
+use Rattle.feeding.proofs.Bits.{at-bits, length-bits}
+use Rattle.feeding.proofs.Views.{formed-net}
+use Rattle.sets.specs.Sets.{oneOf}
+use Rattle.restoration.proofs.Reach.{bits-long}
+use Rattle.restoration.proofs.Sets.{set-at, closed-at}
+use Rattle.printed.specs.Printing.{stepsOf}
+use Rattle.printed.proofs.Steps.{LinksBelow}
+use Rattle.marking.specs.declared.BadStep.{BadStep}
+use Rattle.marking.specs.declared.Examined.{Examined}
+use Rattle.marking.specs.declared.Examined.the-variants.{AllGood, Bad}
+use Rattle.marking.specs.declared.Reason.the-variants.{NotOperable, AlreadySo, Unsafe}
+use Rattle.marking.specs.Marks.{examined, firstBad, stepExamined, stepsExamined}
+use Rattle.submitted.specs.States.{accepted?}
+use Rattle.submitted.proofs.Front.{stepAt, stepsLeft, all-left, one-taken, none-left, steps-below}
+use Rattle.submitted.proofs.Configurations.{set-put, put-same, accepted-safe, safe-same}
+
+-- ---- one step, by the numbers that the code compares
+
+module _ (i operable state want : ℕ) (a : Answer) where
+  abbrev answer : Examined
+  answer = examined i (eqb operable 1) (not (eqb state want)) (accepted? a)
+
+  pub not-operable : (operable ≡ 1 → ⊥) → (r : Examined) → r ≡ Bad (record { step = i; reason = NotOperable }) → r ≡ answer
+  unfolding examined
+  not-operable h r e = e ∙ rw (ne-eqb operable 1 h)
+
+  module _ (op : operable ≡ 1) where
+    pub already-so : state ≡ want → (r : Examined) → r ≡ Bad (record { step = i; reason = AlreadySo }) → r ≡ answer
+    unfolding examined
+    already-so k r e = e ∙ rw (eq-eqb operable 1 op, eq-eqb state want k)
+
+    pub unsafe-then : (state ≡ want → ⊥) → (f : Refusal) → a ≡ Refused f
+        → (r : Examined) → r ≡ Bad (record { step = i; reason = Unsafe }) → r ≡ answer
+    unfolding examined
+    unsafe-then k f q r e = e ∙ rw (eq-eqb operable 1 op, ne-eqb state want k, q)
+
+    pub good-then : (state ≡ want → ⊥) → a ≡ Accepted → AllGood ≡ answer
+    unfolding examined
+    good-then k q = rw (eq-eqb operable 1 op, ne-eqb state want k, q)
+
+-- ---- states past the last link don't matter
+
+pub examined-same : (net : Net) → Formed (net .grid) → (op : ℕ → Bool) (c c′ : Config) → ((l : ℕ) → l < net .grid .K → c l ≡ c′ l)
+    → (i : ℕ) (q : List Step) → LinksBelow (net .grid .K) q → stepsExamined net op c i q ≡ stepsExamined net op c′ i q
+unfolding stepsExamined stepExamined LinksBelow
+examined-same net formed op c c′ same i [] h = refl
+examined-same net formed op c c′ same i (s ∷ q) h =
+    ap₂ firstBad
+    (ap₂ (λ (changes safe : Bool). examined i (op (s .link)) changes safe) (ap (λ (b : Bool). differ b (s .want)) (same (s .link) (h .0)))
+    (safe-same (net .grid) formed (put c (s .link) (s .want)) (put c′ (s .link) (s .want)) puts))
+    (examined-same net formed op (put c (s .link) (s .want)) (put c′ (s .link) (s .want)) puts (suc i) q (h .1))
+  where
+    puts : (l : ℕ) → l < net .grid .K → put c (s .link) (s .want) l ≡ put c′ (s .link) (s .want) l
+    puts = put-same (net .grid .K) c c′ (s .link) (s .want) same
+
+-- ---- a state is 0 or 1
+
+bits-small : (w n : ℕ) (f : ℕ → Bool) (xs : List ℕ) → xs ≡ bits w n f → (l : ℕ) → at xs l ≤ 1
+bits-small w n f xs e l = rw e (go (ltb l w) refl)
+  where
+    go : (t : Bool) → ltb l w ≡ t → at (bits w n f) l ≤ 1
+    go true t = rw (at-bits w n f l (ltb-true l w t)) (gate-le (ltb l n && f l) 1)
+    go false t = rw (List·getD-eq-default (bits w n f) 0 {n = l} (omega (arith, length-bits w n f, ltb-false l w t))) (omega arith)
+
+set-small : (closed : List ℕ) (l : ℕ) (w : Bool) → ((m : ℕ) → at closed m ≤ 1) → l < length closed
+    → (m : ℕ) → at (set closed l (stateNumber w)) m ≤ 1
+set-small closed l w small k m = go (eqb m l) refl
+  where
+    go : (t : Bool) → eqb m l ≡ t → at (set closed l (stateNumber w)) m ≤ 1
+    go true t = rw (eqb-true m l t, getD-set-same closed l (stateNumber w) 0 k) (state-small w)
+    go false t = rw (getD-set-other closed l m (stateNumber w) 0 (eqb-false m l t)) (small m)
+
+changes-is : (state : ℕ) (w : Bool) → state ≤ 1 → not (eqb state (stateNumber w)) ≡ differ (eqb state 1) w
+changes-is state w h = go (eqb state 1) refl w
+  where
+    go : (t : Bool) → eqb state 1 ≡ t → (w : Bool) → not (eqb state (stateNumber w)) ≡ differ t w
+    go true t true = ap not t
+    go true t false = rw (eqb-true state 1 t)
+    go false t true = ap not t
+    go false t false = let e : state ≡ 0 = omega (arith, eqb-false state 1 t) in rw e
+
+-- ---- the loop
+
+-- the steps from step i on, the first of which has number m
+abbrev laterExamined : Network → Plan → List ℕ → ℕ → ℕ → Examined
+laterExamined n p closed m i = stepsExamined (netOf n) (operable? (netOf n)) (closedIn closed) m (stepsLeft p i)
+
+abbrev allExamined : Network → Plan → Examined
+allExamined n p = stepsExamined (netOf n) (operable? (netOf n)) (netOf n .startClosed) 1 (stepsOf p)
+
+-- before step i, in these states: the steps that are left give the whole answer
+pub record Examining (n : Network) (p : Plan) (closed : List ℕ) (i : ℕ) : Type 0 where
+  pub at-most : i ≤ p .steps
+  pub long : length closed ≡ 96
+  pub small : (l : ℕ) → at closed l ≤ 1
+  pub rest : laterExamined n p closed (i + 1) i ≡ allExamined n p
+
+module _ (n : Network) (w : WellFormed n) (p : Plan) (v : WellFormedPlan (n .links) p) where
+  pub first-turn : (closed : List ℕ) → closed ≡ bits 96 (n .links) (oneOf (n .form) 0 2) → Examining n p closed 0
+  unfolding netOf gridOf
+  first-turn closed e =
+      record {
+        at-most = omega arith;
+        long = bits-long closed (n .links) (oneOf (n .form) 0 2) e;
+        small = bits-small 96 (n .links) (oneOf (n .form) 0 2) closed e;
+        rest =
+            ap (stepsExamined (netOf n) (operable? (netOf n)) (closedIn closed) 1) (all-left p)
+            ∙ examined-same (netOf n) (formed-net n w) (operable? (netOf n)) (closedIn closed) (netOf n .startClosed) (closed-at n w closed e)
+            1 (stepsOf p) (steps-below (n .links) p v);
+      }
+
+  -- every step was good
+  pub last-turn : (closed : List ℕ) (i : ℕ) → Examining n p closed i → p .steps ≤ i → AllGood ≡ allExamined n p
+  unfolding stepsExamined
+  last-turn closed i now k =
+      sym (ap (stepsExamined (netOf n) (operable? (netOf n)) (closedIn closed) (i + 1)) (none-left p i k)) ∙ now .rest
+
+  -- step i, wanted in the state `want`, leaves the states closed′, which are answered a
+  module _ (closed : List ℕ) (i : ℕ) (now : Examining n p closed i) (k : i < p .steps)
+      (want : ℕ) (want-is : want ≡ stateNumber (getD (p .close) i false))
+      (closed′ : List ℕ) (closed-is : closed′ ≡ set closed (at (p .link) i) want)
+      (a : Answer) (a-is : a ≡ safety (gridOf (n .elements) (n .links) (n .load) (n .capacity) (n .flags) (n .from) (n .to)) (closedIn closed′))
+      (operable : List ℕ) (operable-is : operable ≡ bits 96 (n .links) (operable? (netOf n)))
+      (found : Examined)
+      (found-is : found ≡ examined (i + 1) (eqb (at operable (at (p .link) i)) 1) (not (eqb (at closed (at (p .link) i)) want)) (accepted? a)) where
+    abbrev link : ℕ
+    link = at (p .link) i
+
+    abbrev wanted : Bool
+    wanted = getD (p .close) i false
+
+    inside : link < length closed
+    inside = omega (arith, now .long, v .link-in i k, w .links-fit)
+
+    left : closed′ ≡ set closed link (stateNumber wanted)
+    left = closed-is ∙ ap (set closed link) want-is
+
+    puts : closedIn closed′ ≡ put (closedIn closed) link wanted
+    puts = ap closedIn left ∙ set-put closed link wanted inside
+
+    step-is : found ≡ stepExamined (netOf n) (operable? (netOf n)) (closedIn closed) (i + 1) (stepAt p i)
+    unfolding stepExamined netOf
+    step-is =
+        found-is
+        ∙ ap (λ (b : Bool). examined (i + 1) b (not (eqb (at closed link) want)) (accepted? a))
+        (set-at n w (n .links) (operable? (netOf n)) operable (w .links-fit) operable-is link (v .link-in i k))
+        ∙ ap₂ (λ (changes safe : Bool). examined (i + 1) (operable? (netOf n) link) changes safe)
+        (ap (λ (x : ℕ). not (eqb (at closed link) x)) want-is ∙ changes-is (at closed link) wanted (now .small link))
+        (ap accepted? a-is ∙ accepted-safe (netOf n .grid) (closedIn closed′) ∙ ap (safe? (netOf n .grid)) puts)
+
+    whole-is : firstBad found (laterExamined n p closed′ (suc (i + 1)) (i + 1)) ≡ allExamined n p
+    unfolding stepsExamined
+    whole-is =
+        ap₂ (λ (x : Examined) (c : Config). firstBad x (stepsExamined (netOf n) (operable? (netOf n)) c (suc (i + 1)) (stepsLeft p (i + 1)))) step-is puts
+        ∙ ap (stepsExamined (netOf n) (operable? (netOf n)) (closedIn closed) (i + 1)) (sym (one-taken p i k)) ∙ now .rest
+
+    pub bad-turn : (b : BadStep) → found ≡ Bad b → found ≡ allExamined n p
+    unfolding firstBad
+    bad-turn b e = e ∙ ap (λ (x : Examined). firstBad x (laterExamined n p closed′ (suc (i + 1)) (i + 1))) (sym e) ∙ whole-is
+
+    pub good-turn : (j : ℕ) → j ≡ i + 1 → found ≡ AllGood → Examining n p closed′ j
+    unfolding firstBad
+    good-turn j next e =
+        record {
+          at-most = omega arith;
+          long = ap length left ∙ length-set closed link (stateNumber wanted) ∙ now .long;
+          small = rw left (set-small closed link wanted (now .small) inside);
+          rest =
+              ap₂ (λ (m x : ℕ). laterExamined n p closed′ m x) (ap (λ (x : ℕ). x + 1) next ∙ add-one (i + 1)) next
+              ∙ ap (λ (x : Examined). firstBad x (laterExamined n p closed′ (suc (i + 1)) (i + 1))) (sym e) ∙ whole-is;
+        }

@@ -1,0 +1,4 @@
+pub mod Front
+pub mod Configurations
+pub mod Examining
+pub mod Turns

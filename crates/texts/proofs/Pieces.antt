@@ -1,0 +1,151 @@
+-- Pieces that are put one behind the other are the line, and a line put from the start of a buffer stands in front of it. By the laws of stores.
+-- Assumes nothing.
+use mathlib.Core.Path.{_≡_, refl, ap, sym, _∙_}
+use mathlib.Core.List.{List, [], _∷_, _++_}
+use Prim.Native.Nat.{ℕ, _+_, _/_, _%_, _^_, _<_, _≤_}
+use native.Mathlib.Nat.{add-assoc, zero-add}
+use native.Mathlib.Numerals.{add-one}
+use native.Mathlib.Omega.{arith}
+use lib.ListN.{length, getD, take, drop, set, length-append, length-take}
+use lib.Seq.{sets, take-suc, length-take-le}
+use Rattle.network.proofs.Stores.{stored-behind, sets-front}
+use Rattle.texts.specs.Texts.{decimal, field, feed, lineOf, inFront, Counted}
+use Rattle.texts.proofs.Digits.{decimal-one, decimal-more, decimal-16, decimal-64}
+
+-- bytes put at i of a list, with the place behind them
+abbrev pub Put : List ℕ → ℕ → List ℕ → ℕ → List ℕ → Type 0
+Put l i l′ j xs = (j ≡ i + length xs) × (l′ ≡ sets l i xs)
+
+pub put-behind :
+    (l l′ l″ : List ℕ) (i j k : ℕ) (xs ys : List ℕ) → Put l i l′ j xs → Put l′ j l″ k ys → Put l i l″ k (xs ++ ys)
+put-behind l l′ l″ i j k xs ys p q = (
+  q .0 ∙ ap (λ (n : ℕ). n + length ys) (p .0) ∙ add-assoc i (length xs) (length ys) ∙
+      ap (λ (n : ℕ). i + n) (sym (length-append xs ys)),
+  stored-behind l l′ l″ i j xs ys (p .1) (q .1) (p .0),
+)
+
+-- ---- a text
+
+-- one turn of the loop over its bytes
+pub text-more :
+    (l l′ : List ℕ) (at i : ℕ) (xs : List ℕ) →
+    l′ ≡ sets l at (take i xs) →
+    i < length xs →
+    set l′ (at + i) (getD xs i 0) ≡ sets l at (take (i + 1) xs)
+text-more l l′ at i xs e h =
+    let long : length (take i xs) ≡ i = length-take-le i xs (omega arith) in
+    let more : take (i + 1) xs ≡ take i xs ++ (getD xs i 0 ∷ []) = rw add-one (take-suc xs i 0 h) in
+    stored-behind l l′ _ at (at + i) (take i xs) (getD xs i 0 ∷ []) e refl (rw long) ∙
+    ap (λ (ys : List ℕ). sets l at ys) (sym more)
+
+-- ---- a number
+
+pub number-one : (l : List ℕ) (at n : ℕ) → n < 10 → Put l at (set l at (48 + n)) (at + 1) (decimal n)
+number-one l at n h = rw (decimal-one n h) (refl, refl)
+
+pub number-more :
+    (l l′ : List ℕ) (at j n : ℕ) →
+    10 ≤ n →
+    Put l at l′ j (decimal (n / 10)) →
+    Put l at (set l′ j (48 + n % 10)) (j + 1) (decimal n)
+number-more l l′ at j n h p =
+    rw (decimal-more n h) (put-behind l l′ _ at j _ (decimal (n / 10)) ((48 + n % 10) ∷ []) p (refl, refl))
+
+-- ---- a field
+
+pub field-put : (l l′ : List ℕ) (at j n : ℕ) → Put (set l at 32) (at + 1) l′ j (decimal n) → Put l at l′ j (field n)
+unfolding field
+field-put l l′ at j n p = put-behind l _ l′ at (at + 1) j (32 ∷ []) (decimal n) (refl, refl) p
+
+pub field-length : (n : ℕ) → length (field n) ≡ length (decimal n) + 1
+unfolding field
+field-length n = rw add-one
+
+pub field-64 : (n : ℕ) → n < 2 ^ 64 → length (field n) ≤ 21
+field-64 n h = omega (arith, field-length n, decimal-64 n h)
+
+pub field-16 : (n : ℕ) → n < 65536 → length (field n) ≤ 6
+field-16 n h = omega (arith, field-length n, decimal-16 n h)
+
+-- ---- a line: a word, one to three fields and the line feed; x, y and z are the numbers that the writer hands on
+
+pub line-one :
+    (l l₁ l₂ l₃ : List ℕ) (at i j k x a : ℕ) (word : List ℕ) →
+    Put l at l₁ i word →
+    Put l₁ i l₂ j (field x) →
+    Put l₂ j l₃ k feed →
+    x ≡ a →
+    Put l at l₃ k (word ++ field a ++ feed)
+line-one l l₁ l₂ l₃ at i j k x a word put first end e =
+    let two = put-behind l l₁ l₂ at i j word (field a) put (rw e at first) in
+    put-behind l l₂ l₃ at j k (word ++ field a) feed two end
+
+pub line-two :
+    (l l₁ l₂ l₃ l₄ : List ℕ) (at i j k m x y a b : ℕ) (word : List ℕ) →
+    Put l at l₁ i word →
+    Put l₁ i l₂ j (field x) →
+    Put l₂ j l₃ k (field y) →
+    Put l₃ k l₄ m feed →
+    x ≡ a →
+    y ≡ b →
+    Put l at l₄ m (word ++ field a ++ field b ++ feed)
+line-two l l₁ l₂ l₃ l₄ at i j k m x y a b word put first second end e e′ =
+    let two = put-behind l l₁ l₂ at i j word (field a) put (rw e at first) in
+    line-one l l₂ l₃ l₄ at j k m y b (word ++ field a) two second end e′
+
+pub line-three :
+    (l l₁ l₂ l₃ l₄ l₅ : List ℕ) (at i j k m n x y z a b c : ℕ) (word : List ℕ) →
+    Put l at l₁ i word →
+    Put l₁ i l₂ j (field x) →
+    Put l₂ j l₃ k (field y) →
+    Put l₃ k l₄ m (field z) →
+    Put l₄ m l₅ n feed →
+    x ≡ a →
+    y ≡ b →
+    z ≡ c →
+    Put l at l₅ n (word ++ field a ++ field b ++ field c ++ feed)
+line-three l l₁ l₂ l₃ l₄ l₅ at i j k m n x y z a b c word put first second third end e e′ e″ =
+    let two = put-behind l l₁ l₂ at i j word (field a) put (rw e at first) in
+    line-two l l₂ l₃ l₄ l₅ at j k m n y z b c (word ++ field a) two second third end e′ e″
+
+-- ---- lines in front of a buffer
+
+-- text that is put from the start of a buffer and does not pass its end
+pub put-front : (l l′ : List ℕ) (j : ℕ) (xs : List ℕ) → j ≤ length l → Put l 0 l′ j xs → (j ≡ length xs) × (l′ ≡ inFront xs l)
+unfolding inFront
+put-front l l′ j xs h p = (p .0 ∙ zero-add (length xs), p .1 ∙ sets-front xs l (omega (arith, h, p .0)))
+
+-- ---- a line of a word and two numbers
+
+pub line-of : (l l₁ l₂ l₃ l₄ : List ℕ) (at i j k m a b : ℕ) (word : List ℕ) → Put l at l₁ i word → Put l₁ i l₂ j (field a) → Put l₂ j l₃ k (field b)
+    → Put l₃ k l₄ m feed → Put l at l₄ m (lineOf word a b)
+unfolding lineOf
+line-of l l₁ l₂ l₃ l₄ at i j k m a b word put first second end = line-two l l₁ l₂ l₃ l₄ at i j k m a b a b word put first second end refl refl
+
+pub line-of-length : (word : List ℕ) (a b : ℕ) → a < 2 ^ 64 → b < 2 ^ 64 → length (lineOf word a b) ≤ length word + 43
+unfolding lineOf
+line-of-length word a b h k = simp length-append (omega (arith, field-64 a h, field-64 b k))
+
+-- as the only line
+pub front-line : (l l′ : List ℕ) (k x y a b : ℕ) (word : List ℕ) → k ≤ length l → Put l 0 l′ k (lineOf word x y) → x ≡ a → y ≡ b
+    → (k ≡ length (lineOf word a b)) × (l′ ≡ inFront (lineOf word a b) l)
+front-line l l′ k x y a b word h put e e′ = put-front l l′ k (lineOf word a b) h (rw (e, e′) at put)
+
+-- a word and one number as the only line
+pub front-one :
+    (l l₁ l₂ l₃ : List ℕ) (i j k x a : ℕ) (word : List ℕ) →
+    k ≤ length l →
+    Put l 0 l₁ i word →
+    Put l₁ i l₂ j (field x) →
+    Put l₂ j l₃ k feed →
+    x ≡ a →
+    (k ≡ length (word ++ field a ++ feed)) × (l₃ ≡ inFront (word ++ field a ++ feed) l)
+front-one l l₁ l₂ l₃ i j k x a word h put first end e =
+    put-front l l₃ k (word ++ field a ++ feed) h (line-one l l₁ l₂ l₃ 0 i j k x a word put first end e)
+
+-- the text in front of a buffer is counted by its length
+pub front-counted : (text buffer : List ℕ) → Counted (length text) (inFront text buffer)
+unfolding inFront
+front-counted text buffer =
+    let long = length-append text (drop (length text) buffer) in
+    (omega (arith, long), omega (arith, long, length-take (length text) (text ++ drop (length text) buffer)))
