@@ -39,7 +39,7 @@ submitted-starts : (s : List ℕ) (n : Network) (p : Plan) → Submits s n p →
 submitted-starts s n p sub = accepted-starts n (sub .formed) (sym (answered-network n (sub .formed) Accepted (sub .accepted)))
 
 -- an accepted input is marked by its plan
-submitted-mark : (s : List ℕ) (n : Network) (p : Plan) → Submits s n p → markFor s ≡ markOf (netOf n) (stepsOf p)
+pub submitted-mark : (s : List ℕ) (n : Network) (p : Plan) → Submits s n p → markFor s ≡ markOf (netOf n) (stepsOf p)
 unfolding markFor markOfRead markRead markAccepted
 submitted-mark s n p sub = ap markOfRead (sub .read) ∙ ap (markAccepted n p) (sym (answered-network n (sub .formed) Accepted (sub .accepted)))
 

@@ -1,3 +1,4 @@
 pub mod Read
 pub mod Kept
 pub mod Turns
+pub mod Agree

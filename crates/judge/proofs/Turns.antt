@@ -46,8 +46,9 @@ module _ (n : Network) (q : List Step) (w : WellFormed n) (st : Starts (netOf n)
   pub least-room : (least : ℕ) → r ≡ Cheapest·.Cost least → least ≤ cost
   least-room least e = score-room (netOf n) (formed-net n w) (st .safe) q v cost least own (subst (CheapestIn (netOf n)) e is)
 
-  pub cost-scored : (least : ℕ) → r ≡ Cheapest·.Cost least → Mark·.Valid (record { cost = cost; excess = cost - least }) ≡ scored (netOf n) q
-  cost-scored least e = score-is (netOf n) (formed-net n w) (st .safe) q v cost least own (subst (CheapestIn (netOf n)) e is)
+  pub cost-scored : (least : ℕ) → r ≡ Cheapest·.Cost least → (x y : ℕ) → x ≡ cost → y ≡ cost - least
+      → Mark·.Valid (record { cost = x; excess = y }) ≡ scored (netOf n) q
+  cost-scored least e x y f g = rw (f, g) (score-is (netOf n) (formed-net n w) (st .safe) q v cost least own (subst (CheapestIn (netOf n)) e is))
 
   -- there is a valid plan, so neither of the other answers is given
   pub none-scored : r ≡ Cheapest·.NoPlan → (m : Mark) → m ≡ scored (netOf n) q

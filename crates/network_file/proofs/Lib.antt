@@ -9,3 +9,4 @@ pub mod Sizes
 pub mod Decide
 pub mod Contents
 pub mod Accepted
+pub mod Followed

@@ -1,5 +1,6 @@
 -- `judge::score` meets its contract: of the planner its promise alone is used, and a valid plan rules out the other two answers.
 -- Assumes nothing.
+use native.Mathlib.Omega.{arith}
 use Rattle.printed.specs.Printing.{stepsOf}
 use Rattle.judge.proofs.Turns.{least-room, cost-scored, none-scored, refused-scored}
 use borrow.Author.Needs.{needs}
@@ -42,7 +43,7 @@ returns c =
     let plan-cost· = c .before .before .before .before .plan-cost in
     let cheapest-cost· = c .before .before .before .cheapest-cost in
     let cheapest· = c .before .cheapest in
-    cost-scored (args· .net) (stepsOf (args· .plan)) (pre· .0 .0) (pre· .0 .1) (pre· .1 .1) _ (plan-cost· .ensures) (cheapest-cost· .result) (cheapest-cost· .ensures) (cheapest· .given .0 .0) (cheapest· .given .1)
+    cost-scored (args· .net) (stepsOf (args· .plan)) (pre· .0 .0) (pre· .0 .1) (pre· .1 .1) _ (plan-cost· .ensures) (cheapest-cost· .result) (cheapest-cost· .ensures) (cheapest· .given .0 .0) (cheapest· .given .1) _ _ (omega arith) (omega arith)
 
 returns-2 : tie.Need-returns-2
 returns-2 c =

@@ -15,16 +15,13 @@ Inv-loop net plan load capacity flags from to head next far operable closed₀ c
     Examining net plan closed i
 
 abbrev μ-loop : tie.MeasureT-loop
-μ-loop net plan load capacity flags from to head next far operable closed₀ count i₀ closed i =
-    count - i
+μ-loop net plan load capacity flags from to head next far operable closed₀ count i₀ closed i = count - i
 
 slice-aggregate-own-ends : tie.Need-slice-aggregate-own-ends Inv-loop μ-loop
-slice-aggregate-own-ends c =
-    search needs
+slice-aggregate-own-ends c = search needs
 
 slice-aggregate-own-ends-2 : tie.Need-slice-aggregate-own-ends-2 Inv-loop μ-loop
-slice-aggregate-own-ends-2 c =
-    search needs
+slice-aggregate-own-ends-2 c = search needs
 
 own-ends-requires : tie.Need-own-ends-requires Inv-loop μ-loop
 own-ends-requires c κs =
@@ -33,20 +30,16 @@ own-ends-requires c κs =
     two-ends (args· .net) (pre· .0)
 
 operable-switches-requires : tie.Need-operable-switches-requires Inv-loop μ-loop
-operable-switches-requires c κs =
-    search needs
+operable-switches-requires c κs = search needs
 
 slice-aggregate-members-of : tie.Need-slice-aggregate-members-of Inv-loop μ-loop
-slice-aggregate-members-of c =
-    search needs
+slice-aggregate-members-of c = search needs
 
 members-of-requires : tie.Need-members-of-requires Inv-loop μ-loop
-members-of-requires c κs =
-    search needs
+members-of-requires c κs = search needs
 
 cast-count : tie.Need-cast-count Inv-loop μ-loop
-cast-count c =
-    omega arith
+cast-count c = omega arith
 
 loop-holds : tie.Need-loop-holds Inv-loop μ-loop
 loop-holds c =
@@ -56,12 +49,10 @@ loop-holds c =
     first-turn (args· .net) (pre· .0) (args· .t2) (pre· .1) (members-of· .result) (members-of· .ensures)
 
 mul-link : tie.Need-mul-link Inv-loop μ-loop
-mul-link c =
-    omega arith
+mul-link c = omega arith
 
 element-copy-out-link : tie.Need-element-copy-out-link Inv-loop μ-loop
-element-copy-out-link c =
-    omega arith
+element-copy-out-link c = omega arith
 
 cast-link : tie.Need-cast-link Inv-loop μ-loop
 cast-link c =
@@ -69,12 +60,10 @@ cast-link c =
     omega (arith, pre· .0 .links-fit, pre· .1 .link-in (c .before .before .loop .i) (omega arith))
 
 element-copy-out-state-of : tie.Need-element-copy-out-state-of Inv-loop μ-loop
-element-copy-out-state-of c =
-    omega arith
+element-copy-out-state-of c = omega arith
 
 state-of-requires : tie.Need-state-of-requires Inv-loop μ-loop
-state-of-requires c κs =
-    search needs
+state-of-requires c κs = search needs
 
 array-read-state : tie.Need-array-read-state Inv-loop μ-loop
 array-read-state c =
@@ -89,40 +78,31 @@ array-write-closed c =
     omega (arith, pre· .0 .links-fit, pre· .1 .link-in (loop· .i) (omega arith))
 
 slice-aggregate-check : tie.Need-slice-aggregate-check Inv-loop μ-loop
-slice-aggregate-check c =
-    search needs
+slice-aggregate-check c = search needs
 
 slice-aggregate-check-2 : tie.Need-slice-aggregate-check-2 Inv-loop μ-loop
-slice-aggregate-check-2 c =
-    search needs
+slice-aggregate-check-2 c = search needs
 
 slice-aggregate-check-3 : tie.Need-slice-aggregate-check-3 Inv-loop μ-loop
-slice-aggregate-check-3 c =
-    search needs
+slice-aggregate-check-3 c = search needs
 
 slice-aggregate-check-4 : tie.Need-slice-aggregate-check-4 Inv-loop μ-loop
-slice-aggregate-check-4 c =
-    search needs
+slice-aggregate-check-4 c = search needs
 
 slice-aggregate-check-5 : tie.Need-slice-aggregate-check-5 Inv-loop μ-loop
-slice-aggregate-check-5 c =
-    search needs
+slice-aggregate-check-5 c = search needs
 
 slice-aggregate-check-6 : tie.Need-slice-aggregate-check-6 Inv-loop μ-loop
-slice-aggregate-check-6 c =
-    search needs
+slice-aggregate-check-6 c = search needs
 
 slice-aggregate-check-7 : tie.Need-slice-aggregate-check-7 Inv-loop μ-loop
-slice-aggregate-check-7 c =
-    search needs
+slice-aggregate-check-7 c = search needs
 
 slice-aggregate-check-8 : tie.Need-slice-aggregate-check-8 Inv-loop μ-loop
-slice-aggregate-check-8 c =
-    search needs
+slice-aggregate-check-8 c = search needs
 
 slice-aggregate-check-9 : tie.Need-slice-aggregate-check-9 Inv-loop μ-loop
-slice-aggregate-check-9 c =
-    search needs
+slice-aggregate-check-9 c = search needs
 
 check-requires : tie.Need-check-requires Inv-loop μ-loop
 check-requires c κs =
@@ -145,12 +125,10 @@ array-read-examine-step c =
     omega (arith, pre· .0 .links-fit, pre· .1 .link-in (loop· .i) (omega arith))
 
 examine-step-requires : tie.Need-examine-step-requires Inv-loop μ-loop
-examine-step-requires c κs =
-    search needs
+examine-step-requires c κs = search needs
 
 enum-told : tie.Need-enum-told Inv-loop μ-loop
-enum-told c =
-    search needs
+enum-told c = search needs
 
 add-i : tie.Need-add-i Inv-loop μ-loop
 add-i c =
@@ -159,8 +137,7 @@ add-i c =
     omega (arith, loop-test· .taken, pre· .1 .steps-fit)
 
 loop-less : tie.Need-loop-less Inv-loop μ-loop
-loop-less c =
-    omega arith
+loop-less c = omega arith
 
 loop-again : tie.Need-loop-again Inv-loop μ-loop
 loop-again c =
@@ -172,11 +149,12 @@ loop-again c =
     let check· = c .before .before .before .check in
     let operable-switches· = c .before .before .before .before .before .before .before .before .before .before .before .before .before .before .before .before .before .before .before .before .operable-switches in
     let examine-step· = c .before .before .examine-step in
-    good-turn (args· .net) (pre· .0) (args· .t2) (pre· .1) (loop· .closed) (loop· .i) (loop· .inv) (omega (arith, loop-test· .taken)) _ (omega (arith, state-of· .ensures)) _ refl (check· .result) (check· .ensures) (operable-switches· .result) (operable-switches· .ensures) (examine-step· .result) (examine-step· .ensures) _ (omega arith) (c .enum-told .given .1)
+    good-turn (args· .net) (pre· .0) (args· .t2) (pre· .1) (loop· .closed) (loop· .i) (loop· .inv) (omega (arith, loop-test· .taken))
+    _ (omega (arith, state-of· .ensures)) _ refl (check· .result) (check· .ensures) (operable-switches· .result) (operable-switches· .ensures)
+    (examine-step· .result) (examine-step· .ensures) _ (omega arith) (c .enum-told .given .1)
 
 enum-told-2 : tie.Need-enum-told-2 Inv-loop μ-loop
-enum-told-2 c =
-    search needs
+enum-told-2 c = search needs
 
 returns : tie.Need-returns Inv-loop μ-loop
 returns c =
@@ -188,7 +166,9 @@ returns c =
     let check· = c .before .before .before .check in
     let operable-switches· = c .before .before .before .before .before .before .before .before .before .before .before .before .before .before .before .before .before .before .before .before .operable-switches in
     let examine-step· = c .before .before .examine-step in
-    bad-turn (args· .net) (pre· .0) (args· .t2) (pre· .1) (loop· .closed) (loop· .i) (loop· .inv) (omega (arith, loop-test· .taken)) _ (omega (arith, state-of· .ensures)) _ refl (check· .result) (check· .ensures) (operable-switches· .result) (operable-switches· .ensures) (examine-step· .result) (examine-step· .ensures) _ (c .enum-told2 .given .1)
+    bad-turn (args· .net) (pre· .0) (args· .t2) (pre· .1) (loop· .closed) (loop· .i) (loop· .inv) (omega (arith, loop-test· .taken))
+    _ (omega (arith, state-of· .ensures)) _ refl (check· .result) (check· .ensures) (operable-switches· .result) (operable-switches· .ensures)
+    (examine-step· .result) (examine-step· .ensures) _ (c .enum-told2 .given .1)
 
 returns-2 : tie.Need-returns-2 Inv-loop μ-loop
 returns-2 c =

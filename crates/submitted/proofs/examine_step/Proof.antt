@@ -8,8 +8,7 @@ use Rattle.submitted.proofs.examine_step.Statement.{statement}
 use Rattle.submitted.proofs.examine_step.Tie as tie
 
 bad-requires : tie.Need-bad-requires
-bad-requires c κs =
-    search needs
+bad-requires c κs = search needs
 
 returns : tie.Need-returns
 returns c =
@@ -17,8 +16,7 @@ returns c =
     not-operable (args· .step) (args· .operable) (args· .state) (args· .want) (args· .answer) (omega arith) _ (c .bad .ensures)
 
 bad-requires-2 : tie.Need-bad-requires-2
-bad-requires-2 c κs =
-    search needs
+bad-requires-2 c κs = search needs
 
 returns-2 : tie.Need-returns-2
 returns-2 c =
@@ -26,16 +24,13 @@ returns-2 c =
     already-so (args· .step) (args· .operable) (args· .state) (args· .want) (args· .answer) (omega arith) (omega arith) _ (c .bad2 .ensures)
 
 enum-told : tie.Need-enum-told
-enum-told c =
-    search needs
+enum-told c = search needs
 
 enum-told-2 : tie.Need-enum-told-2
-enum-told-2 c =
-    search needs
+enum-told-2 c = search needs
 
 bad-requires-3 : tie.Need-bad-requires-3
-bad-requires-3 c κs =
-    search needs
+bad-requires-3 c κs = search needs
 
 returns-3 : tie.Need-returns-3
 returns-3 c =

@@ -8,44 +8,34 @@ use Rattle.submitted.proofs.lowest_dark.Statement.{statement}
 use Rattle.submitted.proofs.lowest_dark.Tie as tie
 
 slice-aggregate-live-elements : tie.Need-slice-aggregate-live-elements
-slice-aggregate-live-elements c =
-    search needs
+slice-aggregate-live-elements c = search needs
 
 slice-aggregate-live-elements-2 : tie.Need-slice-aggregate-live-elements-2
-slice-aggregate-live-elements-2 c =
-    search needs
+slice-aggregate-live-elements-2 c = search needs
 
 slice-aggregate-live-elements-3 : tie.Need-slice-aggregate-live-elements-3
-slice-aggregate-live-elements-3 c =
-    search needs
+slice-aggregate-live-elements-3 c = search needs
 
 live-elements-requires : tie.Need-live-elements-requires
-live-elements-requires c κs =
-    search needs
+live-elements-requires c κs = search needs
 
 restorable-elements-requires : tie.Need-restorable-elements-requires
-restorable-elements-requires c κs =
-    search needs
+restorable-elements-requires c κs = search needs
 
 slice-aggregate-except : tie.Need-slice-aggregate-except
-slice-aggregate-except c =
-    search needs
+slice-aggregate-except c = search needs
 
 slice-aggregate-except-2 : tie.Need-slice-aggregate-except-2
-slice-aggregate-except-2 c =
-    search needs
+slice-aggregate-except-2 c = search needs
 
 except-requires : tie.Need-except-requires
-except-requires c κs =
-    search needs
+except-requires c κs = search needs
 
 slice-aggregate-lowest-member : tie.Need-slice-aggregate-lowest-member
-slice-aggregate-lowest-member c =
-    search needs
+slice-aggregate-lowest-member c = search needs
 
 lowest-member-requires : tie.Need-lowest-member-requires
-lowest-member-requires c κs =
-    search needs
+lowest-member-requires c κs = search needs
 
 returns : tie.Need-returns
 returns c =
@@ -54,7 +44,8 @@ returns c =
     let live-elements· = c .before .before .before .before .before .before .live-elements in
     let restorable-elements· = c .before .before .before .before .before .restorable-elements in
     let except· = c .before .before .except in
-    c .lowest-member .ensures ∙ dark-found (args· .net) (pre· .0) (args· .closed .now) (live-elements· .result) (restorable-elements· .result) (except· .result) (live-elements· .ensures) (restorable-elements· .ensures) (except· .ensures)
+    c .lowest-member .ensures ∙ dark-found (args· .net) (pre· .0) (args· .closed .now) (live-elements· .result) (restorable-elements· .result) (except· .result)
+    (live-elements· .ensures) (restorable-elements· .ensures) (except· .ensures)
 
 pub lowest-dark-spec : {M : Type 1} → statement M
 lowest-dark-spec =

@@ -8,16 +8,13 @@ use Rattle.submitted.proofs.plan_cost.Statement.{statement}
 use Rattle.submitted.proofs.plan_cost.Tie as tie
 
 abbrev Inv-loop : tie.InvT-loop
-Inv-loop plan cost sum₀ count i₀ sum i =
-    Paid plan cost sum i
+Inv-loop plan cost sum₀ count i₀ sum i = Paid plan cost sum i
 
 abbrev μ-loop : tie.MeasureT-loop
-μ-loop plan cost sum₀ count i₀ sum i =
-    count - i
+μ-loop plan cost sum₀ count i₀ sum i = count - i
 
 cast-count : tie.Need-cast-count Inv-loop μ-loop
-cast-count c =
-    omega arith
+cast-count c = omega arith
 
 loop-holds : tie.Need-loop-holds Inv-loop μ-loop
 loop-holds c =
@@ -25,12 +22,10 @@ loop-holds c =
     paid-first (args· .t2) (args· .net .cost) _ (omega arith)
 
 mul-link : tie.Need-mul-link Inv-loop μ-loop
-mul-link c =
-    omega arith
+mul-link c = omega arith
 
 element-copy-out-link : tie.Need-element-copy-out-link Inv-loop μ-loop
-element-copy-out-link c =
-    omega arith
+element-copy-out-link c = omega arith
 
 cast-link : tie.Need-cast-link Inv-loop μ-loop
 cast-link c =
@@ -58,19 +53,18 @@ add-sum c =
     omega (arith, pre· .0 .cost-in _ (pre· .1 .link-in (c .before .before .loop .i) (omega arith)))
 
 add-i : tie.Need-add-i Inv-loop μ-loop
-add-i c =
-    omega arith
+add-i c = omega arith
 
 loop-less : tie.Need-loop-less Inv-loop μ-loop
-loop-less c =
-    omega arith
+loop-less c = omega arith
 
 loop-again : tie.Need-loop-again Inv-loop μ-loop
 loop-again c =
     let args· = c .before .before .before .before .args in
     let loop· = c .before .before .loop in
     let pre· = c .before .before .before .before .pre in
-    paid-turn (args· .t2) (args· .net .cost) (loop· .sum) (loop· .i) (loop· .inv) (omega arith) (pre· .0 .cost-in _ (pre· .1 .link-in (loop· .i) (omega arith))) _ (omega arith) _ (omega arith)
+    paid-turn (args· .t2) (args· .net .cost) (loop· .sum) (loop· .i) (loop· .inv) (omega arith)
+    (pre· .0 .cost-in _ (pre· .1 .link-in (loop· .i) (omega arith))) _ (omega arith) _ (omega arith)
 
 returns : tie.Need-returns Inv-loop μ-loop
 returns c =
