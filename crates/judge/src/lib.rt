@@ -1,5 +1,6 @@
 // The judge: from the bytes of a network file with a plan file directly behind it to the mark, and to its printed line.
 use acceptance::accept;
+use examining::examine;
 use mark_lines::mark_line;
 use marking::Examined;
 use marking::Mark;
@@ -11,7 +12,6 @@ use plan_file::read_network_and_plan;
 use planner::Cheapest;
 use planner::cheapest_cost;
 use sets::members_of;
-use submitted::examine;
 use submitted::lowest_dark;
 use submitted::plan_cost;
 use submitted::states_after;

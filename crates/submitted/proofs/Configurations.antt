@@ -1,39 +1,33 @@
 -- States held as numbers are put and run as configurations are, and no test sees a state past the last link.
 -- Assumes nothing.
-use mathlib.Core.Path.{_≡_, refl, sym, ap, _∙_, fun-ext}
-use mathlib.Core.Bool.{Bool, true, false, not, cond, _&&_, false≢true}
+use mathlib.Core.Path.{_≡_, refl, ap, _∙_, fun-ext}
+use mathlib.Core.Bool.{Bool, true, false, not, cond, _&&_}
 use mathlib.Core.List.{List, [], _∷_}
 use Prim.Native.Nat.{ℕ, _<_}
-use native.Mathlib.Omega.{arith}
 use lib.Dec.{eqb}
 use lib.ListN.{length, set, length-set}
 use lib.Seq.{getD-set-same, getD-set-other}
 use borrow.Author.Tests.{eqb-true, eqb-false}
 use Rattle.network.specs.declared.Network.{Network}
-use Rattle.network_file.specs.declared.Answer.{Answer}
-use Rattle.network_file.specs.declared.Answer.the-variants.{Accepted, Refused}
 use Rattle.network_file.specs.Accepted.{WellFormed}
 use Rattle.plan_file.specs.declared.plan.Plan.{Plan}
 use Rattle.plan_file.specs.Accepted.{WellFormedPlan}
 use Rattle.plan_writer.specs.Writing.{stateNumber}
 use Rattle.plan_writer.proofs.RoundTrip.{state-back}
-use Rattle.feeding.specs.Acceptance.{safety}
 use Rattle.feeding.specs.Below.{bits}
-use Rattle.feeding.specs.Networks.{Grid, Net, Formed, netOf, gridOf}
+use Rattle.feeding.specs.Networks.{Net, netOf, gridOf}
 use Rattle.feeding.specs.Parts.{Config, closedIn}
 use Rattle.feeding.specs.Plans.{Step, put, run}
 use Rattle.feeding.specs.Restoration.{restorable?}
-use Rattle.feeding.specs.Safety.{safe?}
-use Rattle.feeding.proofs.Decided.{safety-safe, safe-safety}
 use Rattle.feeding.proofs.Lows.{lowest-ext}
-use Rattle.feeding.proofs.States.{live-same, safety-same}
+use Rattle.feeding.proofs.States.{live-same}
 use Rattle.sets.specs.Sets.{oneOf}
 use Rattle.restoration.proofs.Reach.{bits-long}
 use Rattle.restoration.proofs.Sets.{closed-at}
 use Rattle.printed.specs.Printing.{stepsOf}
 use Rattle.printed.proofs.Steps.{LinksBelow}
 use Rattle.marking.specs.Marks.{darkPlace}
-use Rattle.submitted.specs.States.{accepted?, statesRun}
+use Rattle.submitted.specs.States.{statesRun}
 use Rattle.submitted.proofs.Front.{steps-below, plan-in}
 
 -- ---- states as numbers
@@ -75,18 +69,6 @@ pub dark-same : (net : Net) (c c′ : Config) → ((l : ℕ) → l < net .grid .
 unfolding darkPlace
 dark-same net c c′ same =
     lowest-ext (net .grid .E) _ _ (λ e _. ap (λ (b : Bool). restorable? net e && not b) (live-same (net .grid) c c′ same e))
-
-pub accepted-safe : (g : Grid) (c : Config) → accepted? (safety g c) ≡ safe? g c
-accepted-safe g c = both (safety g c) refl (safe? g c) refl
-  where
-    both : (a : Answer) → safety g c ≡ a → (t : Bool) → safe? g c ≡ t → accepted? a ≡ t
-    both Accepted e true t = refl
-    both Accepted e false t = absurd (false≢true (sym t ∙ safety-safe g c e))
-    both (Refused r) e true t = let s = safe-safety g c t in let z : _≡_ {A = ℕ} 0 1 = cc in absurd (omega arith)
-    both (Refused r) e false t = refl
-
-pub safe-same : (g : Grid) → Formed g → (c c′ : Config) → ((l : ℕ) → l < g .K → c l ≡ c′ l) → safe? g c ≡ safe? g c′
-safe-same g formed c c′ same = sym (accepted-safe g c) ∙ ap accepted? (safety-same g formed c c′ same) ∙ accepted-safe g c′
 
 -- ---- what is dark in the states that a plan's steps leave
 

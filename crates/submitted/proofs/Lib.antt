@@ -1,4 +1,3 @@
 pub mod Front
 pub mod Configurations
-pub mod Examining
 pub mod Turns

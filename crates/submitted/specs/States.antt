@@ -1,17 +1,10 @@
 -- A configuration held as a list of states, 1 for a closed link, and what steps make of it.
 -- Assumes nothing.
-use mathlib.Core.Bool.{Bool, true, false}
 use mathlib.Core.List.{List, [], _∷_}
 use Prim.Native.Nat.{ℕ}
 use lib.ListN.{set}
-use Rattle.network_file.specs.declared.Answer.{Answer}
-use Rattle.network_file.specs.declared.Answer.the-variants.{Accepted, Refused}
 use Rattle.plan_writer.specs.Writing.{stateNumber}
 use Rattle.feeding.specs.Plans.{Step}
-
-abbrev pub accepted? : Answer → Bool
-accepted? Accepted = true
-accepted? (Refused r) = false
 
 -- the states after a list of steps
 unfoldable pub statesRun : List ℕ → List Step → List ℕ

@@ -2,10 +2,10 @@
 -- Assumes nothing.
 use borrow.Author.Needs.{needs}
 use native.Mathlib.Omega.{arith}
-use Rattle.submitted.proofs.Examining.{not-operable, already-so, unsafe-then, good-then}
+use Rattle.examining.proofs.Examining.{not-operable, already-so, unsafe-then, good-then}
 use borrow.Author.Needs.{needs}
-use Rattle.submitted.proofs.examine_step.Statement.{statement}
-use Rattle.submitted.proofs.examine_step.Tie as tie
+use Rattle.examining.proofs.examine_step.Statement.{statement}
+use Rattle.examining.proofs.examine_step.Tie as tie
 
 bad-requires : tie.Need-bad-requires
 bad-requires c κs = search needs

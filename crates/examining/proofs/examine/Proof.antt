@@ -6,9 +6,9 @@ use Prim.Native.Nat.{_-_}
 use native.Mathlib.Omega.{arith}
 use lib.ListN.{length-set}
 use Rattle.safety.proofs.Networks.{two-ends, checked}
-use Rattle.submitted.proofs.Examining.{Examining, first-turn, last-turn, bad-turn, good-turn}
-use Rattle.submitted.proofs.examine.Statement.{statement}
-use Rattle.submitted.proofs.examine.Tie as tie
+use Rattle.examining.proofs.Examining.{Examining, first-turn, last-turn, bad-turn, good-turn}
+use Rattle.examining.proofs.examine.Statement.{statement}
+use Rattle.examining.proofs.examine.Tie as tie
 
 abbrev Inv-loop : tie.InvT-loop
 Inv-loop net plan load capacity flags from to head next far operable closed₀ count i₀ closed i =

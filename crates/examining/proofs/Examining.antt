@@ -1,7 +1,7 @@
 -- The examination of a plan's steps: one step by its tests, the turns of the loop, whose rest gives the whole answer, and its end.
 -- Assumes nothing.
 use mathlib.Core.Path.{_≡_, refl, sym, ap, ap₂, _∙_}
-use mathlib.Core.Bool.{Bool, true, false, not, _&&_}
+use mathlib.Core.Bool.{Bool, true, false, not, _&&_, false≢true}
 use mathlib.Core.List.{List, [], _∷_}
 use Prim.Native.Nat.{ℕ, suc, _+_, _≤_, _<_}
 use native.Mathlib.Numerals.{add-one}
@@ -21,13 +21,15 @@ use Rattle.plan_writer.specs.Writing.{stateNumber}
 use Rattle.plan_writer.proofs.RoundTrip.{state-small}
 use Rattle.feeding.specs.Acceptance.{safety}
 use Rattle.feeding.specs.Below.{bits}
-use Rattle.feeding.specs.Networks.{Net, Formed, netOf, gridOf, at}
+use Rattle.feeding.specs.Networks.{Grid, Net, Formed, netOf, gridOf, at}
 use Rattle.feeding.specs.Parts.{Config, closedIn}
 use Rattle.feeding.specs.Plans.{Step, put, differ}
 use Rattle.feeding.specs.Restoration.{operable?}
 use Rattle.feeding.specs.Safety.{safe?}
 use Rattle.feeding.proofs.Below.{gate-le}
 use Rattle.feeding.proofs.Bits.{at-bits, length-bits}
+use Rattle.feeding.proofs.Decided.{safety-safe, safe-safety}
+use Rattle.feeding.proofs.States.{safety-same}
 use Rattle.feeding.proofs.Views.{formed-net}
 use Rattle.sets.specs.Sets.{oneOf}
 use Rattle.restoration.proofs.Reach.{bits-long}
@@ -39,9 +41,21 @@ use Rattle.marking.specs.declared.Examined.{Examined}
 use Rattle.marking.specs.declared.Examined.the-variants.{AllGood, Bad}
 use Rattle.marking.specs.declared.Reason.the-variants.{NotOperable, AlreadySo, Unsafe}
 use Rattle.marking.specs.Marks.{examined, firstBad, stepExamined, stepsExamined}
-use Rattle.submitted.specs.States.{accepted?}
+use Rattle.examining.specs.Answers.{accepted?}
 use Rattle.submitted.proofs.Front.{stepAt, stepsLeft, all-left, one-taken, none-left, steps-below}
-use Rattle.submitted.proofs.Configurations.{set-put, put-same, accepted-safe, safe-same}
+use Rattle.submitted.proofs.Configurations.{set-put, put-same}
+
+accepted-safe : (g : Grid) (c : Config) → accepted? (safety g c) ≡ safe? g c
+accepted-safe g c = both (safety g c) refl (safe? g c) refl
+  where
+    both : (a : Answer) → safety g c ≡ a → (t : Bool) → safe? g c ≡ t → accepted? a ≡ t
+    both Accepted e true t = refl
+    both Accepted e false t = absurd (false≢true (sym t ∙ safety-safe g c e))
+    both (Refused r) e true t = let s = safe-safety g c t in let z : _≡_ {A = ℕ} 0 1 = cc in absurd (omega arith)
+    both (Refused r) e false t = refl
+
+safe-same : (g : Grid) → Formed g → (c c′ : Config) → ((l : ℕ) → l < g .K → c l ≡ c′ l) → safe? g c ≡ safe? g c′
+safe-same g formed c c′ same = sym (accepted-safe g c) ∙ ap accepted? (safety-same g formed c c′ same) ∙ accepted-safe g c′
 
 -- ---- one step, by the numbers that the code compares
 
