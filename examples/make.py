@@ -24,7 +24,7 @@ def plan(*steps):
 
 
 def largest():
-    """64 elements in a chain of 53 behind one source and 11 dark ones, 96 links, 12 operable switches (links 52 to 63); 255 steps of cost 1 that are all
+    """64 elements, 53 of them in a chain from one source and 11 dark,, 96 links, 12 operable switches (links 52 to 63); 255 steps of cost 1 that are all
     good: close the tie of each dark element, then open and close the last of them 122 times. VALID 255 244."""
     elements = [(1, 64, SOURCE)] + [(1, 64, 0)] * 63
     links = [(i, i + 1, CLOSED, 1) for i in range(52)]

@@ -27,8 +27,8 @@ use Rattle.marking.specs.declared.Mark.the-variants as Mark·
 use Rattle.marking.specs.Marks.{Marked, markOf}
 use Rattle.marking.proofs.Marking.{mark-marked, marked-mark}
 use Rattle.marking.proofs.Marking as Marking
-use Rattle.marking.specs.Marks as Marking·
-use Rattle.judge.specs.Judging.{Submits, Refuses, unread, unaccepted, MarkKept, accepted, refused, markAccepted, markRead, markOfRead, markFor}
+use Rattle.marking.specs.Marks as Marks·
+use Rattle.judge.specs.Judging.{Submits, RefusesBoth, unread, unaccepted, MarkKept, accepted, refused, markAccepted, markRead, markOfRead, markFor}
 use Rattle.judge.proofs.Read.{both-formed}
 
 -- what s was read as, where rules 1 to 13 are kept
@@ -42,6 +42,12 @@ submitted-starts s n p sub = accepted-starts n (sub .formed) (sym (answered-netw
 pub submitted-mark : (s : List ℕ) (n : Network) (p : Plan) → Submits s n p → markFor s ≡ markOf (netOf n) (stepsOf p)
 unfolding markFor markOfRead markRead markAccepted
 submitted-mark s n p sub = ap markOfRead (sub .read) ∙ ap (markAccepted n p) (sym (answered-network n (sub .formed) Accepted (sub .accepted)))
+
+-- what an accepted submitted plan is marked: the paper's mark of its steps
+pub submitted-marked : (s : List ℕ) (n : Network) (p : Plan) → Submits s n p → Marked (netOf n) (stepsOf p) (markFor s)
+submitted-marked s n p sub =
+    subst (Marked (netOf n) (stepsOf p)) (sym (submitted-mark s n p sub))
+    (mark-marked (netOf n) (formed-net n (sub .formed)) (submitted-starts s n p sub .safe) (stepsOf p))
 
 -- whatever is kept of s is what `mark_of` answers, so bytes have one mark
 pub kept-mark : (s : List ℕ) (m : Mark) → MarkKept s m → m ≡ markFor s
@@ -94,17 +100,17 @@ module _ (s : List ℕ) (n : Network) (p : Plan) (sub : Submits s n p) where
 
 -- demand 1: what breaks a rule is refused by its first broken rule, with its place, and nothing else is refused
 pub refused-exactly : (s : List ℕ) → ((i : ℕ) → getD s i 0 < 256) → (f : Refusal)
-    → (Refuses s f → markFor s ≡ Mark·.Refused f) × (markFor s ≡ Mark·.Refused f → Refuses s f)
+    → (RefusesBoth s f → markFor s ≡ Mark·.Refused f) × (markFor s ≡ Mark·.Refused f → RefusesBoth s f)
 refused-exactly s bytes f = (λ r. sym (kept-mark s _ (refused r)), λ e. go (markFor s) (mark-kept s bytes) e)
   where
     unmarked : (n : Network) (p : Plan) (m : Mark) → Marked (netOf n) (stepsOf p) m → m ≡ Mark·.Refused f → ⊥
-    unmarked n p _ (Marking·.broken b) e = let z : _≡_ {A = ℕ} 0 1 = cc in absurd (omega arith)
-    unmarked n p _ (Marking·.short b) e = let z : _≡_ {A = ℕ} 0 1 = cc in absurd (omega arith)
-    unmarked n p _ (Marking·.valid b) e = let z : _≡_ {A = ℕ} 0 1 = cc in absurd (omega arith)
+    unmarked n p _ (Marks·.broken b) e = let z : _≡_ {A = ℕ} 0 1 = cc in absurd (omega arith)
+    unmarked n p _ (Marks·.short b) e = let z : _≡_ {A = ℕ} 0 1 = cc in absurd (omega arith)
+    unmarked n p _ (Marks·.valid b) e = let z : _≡_ {A = ℕ} 0 1 = cc in absurd (omega arith)
 
-    go : (m : Mark) → MarkKept s m → m ≡ Mark·.Refused f → Refuses s f
+    go : (m : Mark) → MarkKept s m → m ≡ Mark·.Refused f → RefusesBoth s f
     go m (accepted n p sub h) e = absurd (unmarked n p m h e)
-    go _ (refused {f = f′} r) e = subst (Refuses s) same r
+    go _ (refused {f = f′} r) e = subst (RefusesBoth s) same r
       where
         same : f′ ≡ f
         same = cc

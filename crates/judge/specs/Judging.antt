@@ -27,15 +27,15 @@ pub record Submits (s : List ℕ) (n : Network) (p : Plan) : Type 0 where
   pub accepted : Answered (netOf n) Accepted
 
 -- f is the first rule that s breaks, with its place: of rules 1 to 13 over both files, then of 14 to 18
-pub data Refuses (s : List ℕ) : Refusal → Type 0 where
-  unread : {f : Refusal} → bothRead (bothInput s) .answer ≡ Refused f → Refuses s f
+pub data RefusesBoth (s : List ℕ) : Refusal → Type 0 where
+  unread : {f : Refusal} → bothRead (bothInput s) .answer ≡ Refused f → RefusesBoth s f
   unaccepted : {f : Refusal} (n : Network) (p : Plan) → bothRead (bothInput s) ≡ record { answer = Accepted; net = n; plan = p } → WellFormed n
-      → Answered (netOf n) (Refused f) → Refuses s f
+      → Answered (netOf n) (Refused f) → RefusesBoth s f
 
 -- Demands 1 and 2 for the judge: what s is marked
 pub data MarkKept (s : List ℕ) : Mark → Type 0 where
   accepted : (n : Network) (p : Plan) {m : Mark} → Submits s n p → Marked (netOf n) (stepsOf p) m → MarkKept s m
-  refused : {f : Refusal} → Refuses s f → MarkKept s (Mark·.Refused f)
+  refused : {f : Refusal} → RefusesBoth s f → MarkKept s (Mark·.Refused f)
 
 -- ---- what computes
 

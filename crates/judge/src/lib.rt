@@ -38,10 +38,10 @@ fn score(net: Network, plan: Plan) -> Mark
     let cost = plan_cost(net, plan);
     let cheapest = cheapest_cost(net);
     match cheapest {
-        Cheapest::Cost(least) => Mark::Valid(Score {
-            cost,
-            excess: cost - least,
-        }),
+        Cheapest::Cost(least) => {
+            let excess = cost - least;
+            Mark::Valid(Score { cost, excess })
+        }
         Cheapest::NoPlan => Mark::Valid(Score { cost, excess: cost }),
         Cheapest::Refused(refusal) => Mark::Refused(refusal),
     }
@@ -90,7 +90,7 @@ pub fn mark_of(s: &[u8]) -> Mark
         Answer::Accepted => {
             let start = accept(net);
             match start {
-                Answer::Refused(refusal) => Mark::Refused(refusal),
+                Answer::Refused(refused) => Mark::Refused(refused),
                 Answer::Accepted => marked(net, plan),
             }
         }

@@ -68,7 +68,7 @@ pub record ValidBy (net : Net) (op : ℕ → Type 0) (price : List Step → ℕ)
   pub least : CostsLeastBy net op (Restored net) price cheapest
   pub above : v .cost ≡ cheapest + v .excess
 
--- what a list of steps is marked; a refused input has no mark
+-- what a list of steps is marked; the refusals of an input are in the specs of `judge`
 pub data MarkedBy (net : Net) (op : ℕ → Type 0) (price : List Step → ℕ) (q : List Step) : Mark → Type 0 where
   broken : {b : BadStep} → BrokenBy net op q b → MarkedBy net op price q (Mark·.Broken b)
   short : {e : ℕ} → ShortBy net op q e → MarkedBy net op price q (Mark·.Short e)

@@ -19,8 +19,8 @@ enum-known-cheapest : tie.Need-enum-known-cheapest
 enum-known-cheapest c =
     search needs
 
-sub-t8 : tie.Need-sub-t8
-sub-t8 c =
+sub-excess : tie.Need-sub-excess
+sub-excess c =
     let args· = c .before .before .before .before .before .args in
     let pre· = c .before .before .before .before .before .pre in
     let plan-cost· = c .before .before .before .before .plan-cost in
@@ -67,7 +67,7 @@ score-spec =
     plan-cost-requires
     cheapest-cost-requires
     enum-known-cheapest
-    sub-t8
+    sub-excess
     enum-told
     enum-known-cheapest-2
     returns

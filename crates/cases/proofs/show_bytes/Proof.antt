@@ -4,8 +4,8 @@ use Prim.Native.Nat.{_-_}
 use lib.ListN.{length}
 use native.Mathlib.Omega.{arith}
 use borrow.Author.Needs.{needs}
-use Rattle.planner_cases.proofs.show_bytes.Statement.{statement}
-use Rattle.planner_cases.proofs.show_bytes.Tie as tie
+use Rattle.cases.proofs.show_bytes.Statement.{statement}
+use Rattle.cases.proofs.show_bytes.Tie as tie
 
 abbrev Inv-loop : tie.InvT-loop
 Inv-loop bytes i₀ t3 i = Unit {0}

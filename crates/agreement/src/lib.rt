@@ -1,0 +1,1 @@
+// Planner and judge agree: laws over both, in proofs/; no function.
