@@ -1,0 +1,43 @@
+-- `drawn_networks::with_ties` is safe and ends: the loop counts up to its end.
+-- Assumes nothing.
+use Prim.Native.Nat.{_-_}
+use borrow.Author.Needs.{needs}
+use Rattle.drawn_networks.proofs.with_ties.Statement.{statement}
+use Rattle.drawn_networks.proofs.with_ties.Tie as tie
+
+abbrev Inv-loop : tie.InvT-loop
+Inv-loop seed₀ careless ties more₀ counter₀ seed more counter = Unit {0}
+
+abbrev μ-loop : tie.MeasureT-loop
+μ-loop seed₀ careless ties more₀ counter₀ seed more counter = ties - counter
+
+loop-holds : tie.Need-loop-holds Inv-loop μ-loop
+loop-holds c = tt
+
+with-tie-requires : tie.Need-with-tie-requires Inv-loop μ-loop
+with-tie-requires c κs = search needs
+
+add-counter : tie.Need-add-counter Inv-loop μ-loop
+add-counter c = search needs
+
+loop-less : tie.Need-loop-less Inv-loop μ-loop
+loop-less c = search needs
+
+loop-again : tie.Need-loop-again Inv-loop μ-loop
+loop-again c = tt
+
+returns : tie.Need-returns Inv-loop μ-loop
+returns c = search needs
+
+pub with-ties-spec : {M : Type 1} → statement M
+with-ties-spec =
+    tie.close
+    (tie.spec
+    Inv-loop
+    μ-loop
+    loop-holds
+    with-tie-requires
+    add-counter
+    loop-less
+    loop-again
+    returns)

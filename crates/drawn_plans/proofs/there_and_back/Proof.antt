@@ -1,0 +1,47 @@
+-- `drawn_plans::there_and_back` is safe and ends: the loop counts up to its end.
+-- Assumes nothing.
+use Prim.Native.Nat.{_-_}
+use borrow.Author.Needs.{needs}
+use Rattle.drawn_plans.proofs.there_and_back.Statement.{statement}
+use Rattle.drawn_plans.proofs.there_and_back.Tie as tie
+
+abbrev Inv-loop : tie.InvT-loop
+Inv-loop links₀ states₀ on₀ n link times end₀ counter₀ links states on end counter = Unit {0}
+
+abbrev μ-loop : tie.MeasureT-loop
+μ-loop links₀ states₀ on₀ n link times end₀ counter₀ links states on end counter = times - counter
+
+loop-holds : tie.Need-loop-holds Inv-loop μ-loop
+loop-holds c = tt
+
+turn-requires : tie.Need-turn-requires Inv-loop μ-loop
+turn-requires c κs = search needs
+
+turn-requires-2 : tie.Need-turn-requires-2 Inv-loop μ-loop
+turn-requires-2 c κs = search needs
+
+add-counter : tie.Need-add-counter Inv-loop μ-loop
+add-counter c = search needs
+
+loop-less : tie.Need-loop-less Inv-loop μ-loop
+loop-less c = search needs
+
+loop-again : tie.Need-loop-again Inv-loop μ-loop
+loop-again c = tt
+
+returns : tie.Need-returns Inv-loop μ-loop
+returns c = search needs
+
+pub there-and-back-spec : {M : Type 1} → statement M
+there-and-back-spec =
+    tie.close
+    (tie.spec
+    Inv-loop
+    μ-loop
+    loop-holds
+    turn-requires
+    turn-requires-2
+    add-counter
+    loop-less
+    loop-again
+    returns)

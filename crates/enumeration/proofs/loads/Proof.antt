@@ -1,0 +1,51 @@
+-- `enumeration::loads` is safe and ends: the loop counts up to its end.
+-- Assumes nothing.
+use Prim.Native.Nat.{_-_}
+use borrow.Author.Needs.{needs}
+use Rattle.enumeration.proofs.loads.Statement.{statement}
+use Rattle.enumeration.proofs.loads.Tie as tie
+
+abbrev Inv-loop : tie.InvT-loop
+Inv-loop via load sums₀ x₀ x-end sums x = Unit {0}
+
+abbrev μ-loop : tie.MeasureT-loop
+μ-loop via load sums₀ x₀ x-end sums x = x-end - x
+
+loop-holds : tie.Need-loop-holds Inv-loop μ-loop
+loop-holds c = tt
+
+at-requires : tie.Need-at-requires Inv-loop μ-loop
+at-requires c κs = search needs
+
+at-requires-2 : tie.Need-at-requires-2 Inv-loop μ-loop
+at-requires-2 c κs = search needs
+
+add-along-requires : tie.Need-add-along-requires Inv-loop μ-loop
+add-along-requires c κs = search needs
+
+add-x : tie.Need-add-x Inv-loop μ-loop
+add-x c = search needs
+
+loop-less : tie.Need-loop-less Inv-loop μ-loop
+loop-less c = search needs
+
+loop-again : tie.Need-loop-again Inv-loop μ-loop
+loop-again c = tt
+
+returns : tie.Need-returns Inv-loop μ-loop
+returns c = search needs
+
+pub loads-spec : {M : Type 1} → statement M
+loads-spec =
+    tie.close
+    (tie.spec
+    Inv-loop
+    μ-loop
+    loop-holds
+    at-requires
+    at-requires-2
+    add-along-requires
+    add-x
+    loop-less
+    loop-again
+    returns)
