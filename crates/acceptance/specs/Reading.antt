@@ -29,11 +29,11 @@ acceptedFrom n (Refused r) = record { answer = Refused r; net = n }
 unfoldable pub acceptedRead : NetworkRead → NetworkRead
 acceptedRead r = acceptedFrom (r .net) (r .answer)
 
--- What the paper says of the planner's input s, and `input-judged` of `read_accepted`'s answer: a file that breaks one of rules 1 to 13 is
+-- What the paper says of the planner's input s, and `input-admission` of `read_accepted`'s answer: a file that breaks one of rules 1 to 13 is
 -- refused by it; one that passes them is read as a well-formed network, and gets what rules 14 to 18 say of it.
-pub data Judged (s : List ℕ) : NetworkRead → Type 0 where
-  unread : {r : Refusal} → networkRead (networkInput s) .answer ≡ Refused r → Judged s (record { answer = Refused r; net = emptyNetwork })
+pub data Admission (s : List ℕ) : NetworkRead → Type 0 where
+  unread : {r : Refusal} → networkRead (networkInput s) .answer ≡ Refused r → Admission s (record { answer = Refused r; net = emptyNetwork })
   refused : {r : Refusal} (n : Network) → networkRead (networkInput s) ≡ record { answer = Accepted; net = n } → WellFormed n
-      → Answered (netOf n) (Refused r) → Judged s (record { answer = Refused r; net = emptyNetwork })
+      → Answered (netOf n) (Refused r) → Admission s (record { answer = Refused r; net = emptyNetwork })
   accepted : (n : Network) → networkRead (networkInput s) ≡ record { answer = Accepted; net = n } → WellFormed n
-      → Answered (netOf n) Accepted → Judged s (record { answer = Accepted; net = n })
+      → Answered (netOf n) Accepted → Admission s (record { answer = Accepted; net = n })

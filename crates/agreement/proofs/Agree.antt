@@ -29,9 +29,9 @@ use Rattle.feeding.specs.Acceptance.{Answered}
 use Rattle.feeding.specs.Networks.{netOf, gridOf}
 use Rattle.feeding.specs.Plans.{Step, printedForm}
 use Rattle.feeding.proofs.Views.{formed-net}
-use Rattle.acceptance.specs.Reading.{Judged}
+use Rattle.acceptance.specs.Reading.{Admission}
 use Rattle.acceptance.specs.Reading as Reading
-use Rattle.acceptance.proofs.Promises.{judged-only, input-starts}
+use Rattle.acceptance.proofs.Promises.{admission-only, input-starts}
 use Rattle.planning.specs.Choosing.{Choice, nothing, chosen, planned}
 use Rattle.printed.specs.Printing.{stepsTo, stepsOf}
 use Rattle.printed.proofs.Steps.{plan-well-formed, printed-length, printed-below}
@@ -92,7 +92,7 @@ read-stated s n r w h = go (networkInput s) refl r
         record {
           formed = w;
           answered = h;
-          planned-is = ap outcomeRead (sym (judged-only s _ (Reading.accepted n r w h)));
+          planned-is = ap outcomeRead (sym (admission-only s _ (Reading.accepted n r w h)));
           last = last;
           read = size .0 ∙ ap₂ (λ (l : ℕ) (x : Network). reached l last x) (sym (size .1)) (ap (λ (x : NetworkRead). x .net) k);
         }
@@ -100,7 +100,7 @@ read-stated s n r w h = go (networkInput s) refl r
 accepted-stated : (s : List ℕ) (n : Network) → Accepts s n → Stated s n
 accepted-stated s n a = go _ a refl refl
   where
-    go : (r : NetworkRead) → Judged s r → r .answer ≡ Accepted → r .net ≡ n → Stated s n
+    go : (r : NetworkRead) → Admission s r → r .answer ≡ Accepted → r .net ≡ n → Stated s n
     go _ (Reading.unread _) e k = let z : _≡_ {A = ℕ} 0 1 = cc in absurd (omega arith)
     go _ (Reading.refused _ _ _ _) e k = let z : _≡_ {A = ℕ} 0 1 = cc in absurd (omega arith)
     go _ (Reading.accepted m r w h) e k = subst (Stated s) k (read-stated s m r w h)

@@ -21,10 +21,9 @@ use Rattle.plan_writer.specs.Writing.{stateNumber}
 use Rattle.plan_writer.proofs.RoundTrip.{state-small}
 use Rattle.feeding.specs.Acceptance.{safety}
 use Rattle.feeding.specs.Below.{bits}
-use Rattle.feeding.specs.Networks.{Grid, Net, Formed, netOf, gridOf, at}
+use Rattle.feeding.specs.Networks.{Grid, Net, Formed, netOf, gridOf, at, isIn}
 use Rattle.feeding.specs.Parts.{Config, closedIn}
 use Rattle.feeding.specs.Plans.{Step, put, differ}
-use Rattle.feeding.specs.Restoration.{operable?}
 use Rattle.feeding.specs.Safety.{safe?}
 use Rattle.feeding.proofs.Below.{gate-le}
 use Rattle.feeding.proofs.Bits.{at-bits, length-bits}
@@ -33,7 +32,7 @@ use Rattle.feeding.proofs.States.{safety-same}
 use Rattle.feeding.proofs.Views.{formed-net}
 use Rattle.sets.specs.Sets.{oneOf}
 use Rattle.restoration.proofs.Reach.{bits-long}
-use Rattle.restoration.proofs.Sets.{set-at, closed-at}
+use Rattle.restoration.proofs.Sets.{closed-at}
 use Rattle.printed.specs.Printing.{stepsOf}
 use Rattle.printed.proofs.Steps.{LinksBelow}
 use Rattle.marking.specs.declared.BadStep.{BadStep}
@@ -81,17 +80,20 @@ module _ (i operable state want : ℕ) (a : Answer) where
     unfolding examined
     good-then k q = rw (eq-eqb operable 1 op, ne-eqb state want k, q)
 
--- ---- states past the last link don't matter
+-- ---- links past the last one don't matter, in the states and in the operable set
 
-pub examined-same : (net : Net) → Formed (net .grid) → (op : ℕ → Bool) (c c′ : Config) → ((l : ℕ) → l < net .grid .K → c l ≡ c′ l)
-    → (i : ℕ) (q : List Step) → LinksBelow (net .grid .K) q → stepsExamined net op c i q ≡ stepsExamined net op c′ i q
+pub examined-same : (net : Net) → Formed (net .grid) → (op op′ : ℕ → Bool) → ((l : ℕ) → l < net .grid .K → op l ≡ op′ l)
+    → (c c′ : Config) → ((l : ℕ) → l < net .grid .K → c l ≡ c′ l)
+    → (i : ℕ) (q : List Step) → LinksBelow (net .grid .K) q → stepsExamined net op c i q ≡ stepsExamined net op′ c′ i q
 unfolding stepsExamined stepExamined LinksBelow
-examined-same net formed op c c′ same i [] h = refl
-examined-same net formed op c c′ same i (s ∷ q) h =
+examined-same net formed op op′ ops c c′ same i [] h = refl
+examined-same net formed op op′ ops c c′ same i (s ∷ q) h =
     ap₂ firstBad
-    (ap₂ (λ (changes safe : Bool). examined i (op (s .link)) changes safe) (ap (λ (b : Bool). differ b (s .want)) (same (s .link) (h .0)))
+    (ap₂ (λ (operable changes : Bool). examined i operable changes (safe? (net .grid) (put c (s .link) (s .want)))) (ops (s .link) (h .0))
+    (ap (λ (b : Bool). differ b (s .want)) (same (s .link) (h .0)))
+    ∙ ap (examined i (op′ (s .link)) (differ (c′ (s .link)) (s .want)))
     (safe-same (net .grid) formed (put c (s .link) (s .want)) (put c′ (s .link) (s .want)) puts))
-    (examined-same net formed op (put c (s .link) (s .want)) (put c′ (s .link) (s .want)) puts (suc i) q (h .1))
+    (examined-same net formed op op′ ops (put c (s .link) (s .want)) (put c′ (s .link) (s .want)) puts (suc i) q (h .1))
   where
     puts : (l : ℕ) → l < net .grid .K → put c (s .link) (s .want) l ≡ put c′ (s .link) (s .want) l
     puts = put-same (net .grid .K) c c′ (s .link) (s .want) same
@@ -125,21 +127,21 @@ changes-is state w h = go (eqb state 1) refl w
 -- ---- the loop
 
 -- the steps from step i on, the first of which has number m
-abbrev laterExamined : Network → Plan → List ℕ → ℕ → ℕ → Examined
-laterExamined n p closed m i = stepsExamined (netOf n) (operable? (netOf n)) (closedIn closed) m (stepsLeft p i)
+abbrev laterExamined : Network → List ℕ → Plan → List ℕ → ℕ → ℕ → Examined
+laterExamined n operable p closed m i = stepsExamined (netOf n) (isIn operable) (closedIn closed) m (stepsLeft p i)
 
-abbrev allExamined : Network → Plan → Examined
-allExamined n p = stepsExamined (netOf n) (operable? (netOf n)) (netOf n .startClosed) 1 (stepsOf p)
+abbrev allExamined : Network → List ℕ → Plan → Examined
+allExamined n operable p = stepsExamined (netOf n) (isIn operable) (netOf n .startClosed) 1 (stepsOf p)
 
 -- before step i, in these states: the steps that are left give the whole answer
-pub record Examining (n : Network) (p : Plan) (closed : List ℕ) (i : ℕ) : Type 0 where
+pub record Examining (n : Network) (operable : List ℕ) (p : Plan) (closed : List ℕ) (i : ℕ) : Type 0 where
   pub at-most : i ≤ p .steps
   pub long : length closed ≡ 96
   pub small : (l : ℕ) → at closed l ≤ 1
-  pub rest : laterExamined n p closed (i + 1) i ≡ allExamined n p
+  pub rest : laterExamined n operable p closed (i + 1) i ≡ allExamined n operable p
 
-module _ (n : Network) (w : WellFormed n) (p : Plan) (v : WellFormedPlan (n .links) p) where
-  pub first-turn : (closed : List ℕ) → closed ≡ bits 96 (n .links) (oneOf (n .form) 0 2) → Examining n p closed 0
+module _ (n : Network) (w : WellFormed n) (operable : List ℕ) (p : Plan) (v : WellFormedPlan (n .links) p) where
+  pub first-turn : (closed : List ℕ) → closed ≡ bits 96 (n .links) (oneOf (n .form) 0 2) → Examining n operable p closed 0
   unfolding netOf gridOf
   first-turn closed e =
       record {
@@ -147,23 +149,22 @@ module _ (n : Network) (w : WellFormed n) (p : Plan) (v : WellFormedPlan (n .lin
         long = bits-long closed (n .links) (oneOf (n .form) 0 2) e;
         small = bits-small 96 (n .links) (oneOf (n .form) 0 2) closed e;
         rest =
-            ap (stepsExamined (netOf n) (operable? (netOf n)) (closedIn closed) 1) (all-left p)
-            ∙ examined-same (netOf n) (formed-net n w) (operable? (netOf n)) (closedIn closed) (netOf n .startClosed) (closed-at n w closed e)
-            1 (stepsOf p) (steps-below (n .links) p v);
+            ap (stepsExamined (netOf n) (isIn operable) (closedIn closed) 1) (all-left p)
+            ∙ examined-same (netOf n) (formed-net n w) (isIn operable) (isIn operable) (λ _ _. refl) (closedIn closed) (netOf n .startClosed)
+            (closed-at n w closed e) 1 (stepsOf p) (steps-below (n .links) p v);
       }
 
   -- every step was good
-  pub last-turn : (closed : List ℕ) (i : ℕ) → Examining n p closed i → p .steps ≤ i → AllGood ≡ allExamined n p
+  pub last-turn : (closed : List ℕ) (i : ℕ) → Examining n operable p closed i → p .steps ≤ i → AllGood ≡ allExamined n operable p
   unfolding stepsExamined
   last-turn closed i now k =
-      sym (ap (stepsExamined (netOf n) (operable? (netOf n)) (closedIn closed) (i + 1)) (none-left p i k)) ∙ now .rest
+      sym (ap (stepsExamined (netOf n) (isIn operable) (closedIn closed) (i + 1)) (none-left p i k)) ∙ now .rest
 
   -- step i, wanted in the state `want`, leaves the states closed′, which are answered a
-  module _ (closed : List ℕ) (i : ℕ) (now : Examining n p closed i) (k : i < p .steps)
+  module _ (closed : List ℕ) (i : ℕ) (now : Examining n operable p closed i) (k : i < p .steps)
       (want : ℕ) (want-is : want ≡ stateNumber (getD (p .close) i false))
       (closed′ : List ℕ) (closed-is : closed′ ≡ set closed (at (p .link) i) want)
       (a : Answer) (a-is : a ≡ safety (gridOf (n .elements) (n .links) (n .load) (n .capacity) (n .flags) (n .from) (n .to)) (closedIn closed′))
-      (operable : List ℕ) (operable-is : operable ≡ bits 96 (n .links) (operable? (netOf n)))
       (found : Examined)
       (found-is : found ≡ examined (i + 1) (eqb (at operable (at (p .link) i)) 1) (not (eqb (at closed (at (p .link) i)) want)) (accepted? a)) where
     abbrev link : ℕ
@@ -181,27 +182,25 @@ module _ (n : Network) (w : WellFormed n) (p : Plan) (v : WellFormedPlan (n .lin
     puts : closedIn closed′ ≡ put (closedIn closed) link wanted
     puts = ap closedIn left ∙ set-put closed link wanted inside
 
-    step-is : found ≡ stepExamined (netOf n) (operable? (netOf n)) (closedIn closed) (i + 1) (stepAt p i)
+    step-is : found ≡ stepExamined (netOf n) (isIn operable) (closedIn closed) (i + 1) (stepAt p i)
     unfolding stepExamined netOf
     step-is =
         found-is
-        ∙ ap (λ (b : Bool). examined (i + 1) b (not (eqb (at closed link) want)) (accepted? a))
-        (set-at n w (n .links) (operable? (netOf n)) operable (w .links-fit) operable-is link (v .link-in i k))
-        ∙ ap₂ (λ (changes safe : Bool). examined (i + 1) (operable? (netOf n) link) changes safe)
+        ∙ ap₂ (λ (changes safe : Bool). examined (i + 1) (isIn operable link) changes safe)
         (ap (λ (x : ℕ). not (eqb (at closed link) x)) want-is ∙ changes-is (at closed link) wanted (now .small link))
         (ap accepted? a-is ∙ accepted-safe (netOf n .grid) (closedIn closed′) ∙ ap (safe? (netOf n .grid)) puts)
 
-    whole-is : firstBad found (laterExamined n p closed′ (suc (i + 1)) (i + 1)) ≡ allExamined n p
+    whole-is : firstBad found (laterExamined n operable p closed′ (suc (i + 1)) (i + 1)) ≡ allExamined n operable p
     unfolding stepsExamined
     whole-is =
-        ap₂ (λ (x : Examined) (c : Config). firstBad x (stepsExamined (netOf n) (operable? (netOf n)) c (suc (i + 1)) (stepsLeft p (i + 1)))) step-is puts
-        ∙ ap (stepsExamined (netOf n) (operable? (netOf n)) (closedIn closed) (i + 1)) (sym (one-taken p i k)) ∙ now .rest
+        ap₂ (λ (x : Examined) (c : Config). firstBad x (stepsExamined (netOf n) (isIn operable) c (suc (i + 1)) (stepsLeft p (i + 1)))) step-is puts
+        ∙ ap (stepsExamined (netOf n) (isIn operable) (closedIn closed) (i + 1)) (sym (one-taken p i k)) ∙ now .rest
 
-    pub bad-turn : (b : BadStep) → found ≡ Bad b → found ≡ allExamined n p
+    pub bad-turn : (b : BadStep) → found ≡ Bad b → found ≡ allExamined n operable p
     unfolding firstBad
-    bad-turn b e = e ∙ ap (λ (x : Examined). firstBad x (laterExamined n p closed′ (suc (i + 1)) (i + 1))) (sym e) ∙ whole-is
+    bad-turn b e = e ∙ ap (λ (x : Examined). firstBad x (laterExamined n operable p closed′ (suc (i + 1)) (i + 1))) (sym e) ∙ whole-is
 
-    pub good-turn : (j : ℕ) → j ≡ i + 1 → found ≡ AllGood → Examining n p closed′ j
+    pub good-turn : (j : ℕ) → j ≡ i + 1 → found ≡ AllGood → Examining n operable p closed′ j
     unfolding firstBad
     good-turn j next e =
         record {
@@ -209,6 +208,6 @@ module _ (n : Network) (w : WellFormed n) (p : Plan) (v : WellFormedPlan (n .lin
           long = ap length left ∙ length-set closed link (stateNumber wanted) ∙ now .long;
           small = rw left (set-small closed link wanted (now .small) inside);
           rest =
-              ap₂ (λ (m x : ℕ). laterExamined n p closed′ m x) (ap (λ (x : ℕ). x + 1) next ∙ add-one (i + 1)) next
-              ∙ ap (λ (x : Examined). firstBad x (laterExamined n p closed′ (suc (i + 1)) (i + 1))) (sym e) ∙ whole-is;
+              ap₂ (λ (m x : ℕ). laterExamined n operable p closed′ m x) (ap (λ (x : ℕ). x + 1) next ∙ add-one (i + 1)) next
+              ∙ ap (λ (x : Examined). firstBad x (laterExamined n operable p closed′ (suc (i + 1)) (i + 1))) (sym e) ∙ whole-is;
         }

@@ -5,7 +5,6 @@ use marking::Examined;
 use marking::Reason;
 use network::Network;
 use network_file::Answer;
-use operable::operable_switches;
 use plan_file::plan::Plan;
 use safety::check;
 use sets::members_of;
@@ -13,10 +12,11 @@ use submitted::state_of;
 ghost use mathlib.Core.Path.{_≡_};
 ghost use mathlib.Core.Bool.{not};
 ghost use lib.Dec.{eqb};
+ghost use lib.ListN.{length};
+ghost use Prim.Native.Nat.{_≤_};
 ghost use Rattle.network_file.specs.Accepted.{WellFormed};
 ghost use Rattle.plan_file.specs.Accepted.{WellFormedPlan};
-ghost use Rattle.feeding.specs.Networks.{netOf};
-ghost use Rattle.feeding.specs.Restoration.{operable?};
+ghost use Rattle.feeding.specs.Networks.{netOf, isIn};
 ghost use Rattle.printed.specs.Printing.{stepsOf};
 ghost use Rattle.marking.specs.declared.Examined.the-variants.{Bad};
 ghost use Rattle.marking.specs.Marks.{examined, stepsExamined};
@@ -45,11 +45,12 @@ fn examine_step(step: usize, operable: u8, state: u8, want: u8, answer: Answer) 
     }
 }
 
-// Whether all steps are good, or the first that is not.
-pub fn examine(net: Network, plan: Plan) -> Examined
+// Whether all steps are good, or the first that is not; operable[l] is 1 for an operable switch.
+pub fn examine(net: Network, operable: &[u8], plan: Plan) -> Examined
     requires { ⌜ WellFormed net ⌝ }
+    requires { ⌜ net .links ≤ length (now operable) ⌝ }
     requires { ⌜ WellFormedPlan (net .links) plan ⌝ }
-    ensures { λ r. ⌜ r ≡ stepsExamined (netOf net) (operable? (netOf net)) (netOf net .startClosed) 1 (stepsOf plan) ⌝ }
+    ensures { λ r. ⌜ r ≡ stepsExamined (netOf net) (isIn (now (operable .entry))) (netOf net .startClosed) 1 (stepsOf plan) ⌝ }
 {
     let load = net.load;
     let capacity = net.capacity;
@@ -61,7 +62,6 @@ pub fn examine(net: Network, plan: Plan) -> Examined
     let head = own.head;
     let next = own.next;
     let far = own.far;
-    let operable = operable_switches(net);
     let mut closed = members_of(&form, 0, 2, net.links);
     let count = plan.steps as usize;
     let mut i: usize = 0;
@@ -84,14 +84,10 @@ pub fn examine(net: Network, plan: Plan) -> Examined
             net.links,
         );
         let found = examine_step(i + 1, operable[link], state, want, answer);
-        match found {
-            Examined::AllGood => {
-                i += 1;
-            }
-            Examined::Bad(_) => {
-                return found;
-            }
-        }
+        let Examined::AllGood = found else {
+            return found;
+        };
+        i += 1;
     }
     Examined::AllGood
 }

@@ -18,7 +18,7 @@ differ-in true false e = refl
 differ-in false true e = refl
 differ-in false false e = e
 
-differ-out : (a w : Bool) → differ a w ≡ true → a ≡ not w
+pub differ-out : (a w : Bool) → differ a w ≡ true → a ≡ not w
 differ-out true true e = sym e
 differ-out true false e = refl
 differ-out false true e = refl

@@ -7,6 +7,7 @@ use marking::Mark;
 use marking::Score;
 use network::Network;
 use network_file::Answer;
+use operable::operable_switches;
 use plan_file::plan::Plan;
 use plan_file::read_network_and_plan;
 use planner::Cheapest;
@@ -51,7 +52,7 @@ fn score(net: Network, plan: Plan) -> Mark
 fn finished(net: Network, plan: Plan) -> Mark
     requires { ⌜ WellFormed net × Starts (netOf net) ⌝ }
     requires { ⌜ WellFormedPlan (net .links) plan × Good (netOf net) (Operable (netOf net)) (netOf net .startClosed) (stepsOf plan) ⌝ }
-    ensures { λ r. ⌜ r ≡ markAt (netOf net) (stepsOf plan) (darkPlace (netOf net) (run (netOf net .startClosed) (stepsOf plan))) ⌝ }
+    ensures { λ r. ⌜ r ≡ markAt (netOf net) (scored (netOf net) (stepsOf plan)) (darkPlace (netOf net) (run (netOf net .startClosed) (stepsOf plan))) ⌝ }
 {
     let form = net.form;
     let start = members_of(&form, 0, 2, net.links);
@@ -69,7 +70,8 @@ fn marked(net: Network, plan: Plan) -> Mark
     requires { ⌜ WellFormedPlan (net .links) plan ⌝ }
     ensures { λ r. ⌜ r ≡ markOf (netOf net) (stepsOf plan) ⌝ }
 {
-    let examined = examine(net, plan);
+    let operable = operable_switches(net);
+    let examined = examine(net, &operable, plan);
     match examined {
         Examined::Bad(bad) => Mark::Broken(bad),
         Examined::AllGood => finished(net, plan),

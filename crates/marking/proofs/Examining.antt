@@ -12,7 +12,7 @@ use Rattle.feeding.specs.Plans.{Step, GoodStep, Good, put, run, differ, goodSte
 use Rattle.feeding.specs.Safety.{safe?}
 use Rattle.feeding.proofs.Below.{and-both}
 use Rattle.feeding.proofs.Decided.{safe?-complete}
-use Rattle.feeding.proofs.Validity.{goodStep?-out}
+use Rattle.feeding.proofs.Validity.{differ-out, goodStep?-out}
 use Rattle.marking.specs.declared.Reason.{Reason}
 use Rattle.marking.specs.declared.Reason.the-variants.{NotOperable, AlreadySo, Unsafe}
 use Rattle.marking.specs.declared.BadStep.{BadStep}
@@ -48,10 +48,6 @@ state-same false false e = refl
 state-other : (a w : Bool) → a ≡ not w → ¬ (a ≡ w)
 state-other a true e f = false≢true (sym e ∙ f)
 state-other a false e f = false≢true (sym f ∙ e)
-
-state-moved : (a w : Bool) → differ a w ≡ true → ¬ (a ≡ w)
-state-moved true w e f = false≢true (ap not f ∙ e)
-state-moved false w e f = false≢true (f ∙ e)
 
 all-unbad : (b : BadStep) → ¬ (AllGood ≡ Bad b)
 all-unbad b e = let z : _≡_ {A = ℕ} 0 1 = cc in omega arith
@@ -104,7 +100,7 @@ module _ (net : Net) (formed : Formed (net .grid)) (op : ℕ → Type 0) (op? : 
         where
           third : (r : Reason) → Fits net op c s r → 3 ≤ reasonNumber r
           third NotOperable h = absurd (h (op-out (s .link) a))
-          third AlreadySo h = absurd (state-moved _ _ f h)
+          third AlreadySo h = absurd (state-other _ _ (differ-out _ _ f) h)
           third Unsafe h = omega arith
       go true a true f true g = fine (tests-good c s a f g)
 
@@ -196,6 +192,3 @@ module _ (net : Net) (formed : Formed (net .grid)) (op : ℕ → Type 0) (op? : 
 
   pub broken-examined : (q : List Step) (b : BadStep) → BrokenBy net op q b → stepsExamined net op? (net .startClosed) 1 q ≡ Bad b
   broken-examined q b r = rw (r .whole) (from-examined (net .startClosed) 1 (r .front) (r .bad) (r .rest) b (r .number) (r .good) (r .reason))
-
-  pub broken-bad : (q : List Step) (b : BadStep) → BrokenBy net op q b → ¬ Good net op (net .startClosed) q
-  broken-bad q b r g = all-unbad b (sym (good-examined (net .startClosed) 1 q g) ∙ broken-examined q b r)

@@ -1,4 +1,4 @@
--- The mark is the paper's, and the only one: the places are lowest, the cheapest cost is that of the planner's recursion.
+-- The mark is the paper's, and the only one, for any operable set, cost and cheapest cost; document 01's cheapest cost is that of the planner's recursion.
 -- Assumes nothing.
 use Prim.Native.Nat.{ℕ, _+_, _-_, _≤_, _<_}
 use mathlib.Core.Path.{_≡_, refl, sym, ap, _∙_, subst}
@@ -10,46 +10,23 @@ use native.Mathlib.Omega.{arith}
 use Rattle.feeding.specs.Below.{Lowest}
 use Rattle.feeding.specs.Networks.{Net, Formed}
 use Rattle.feeding.specs.Parts.{Config, Live, live?}
-use Rattle.feeding.specs.Plans.{Step, Good, ValidPlan, run, costOf, printedForm}
+use Rattle.feeding.specs.Plans.{Step, Good, Valid, ValidPlan, run, costOf, printedForm}
 use Rattle.feeding.specs.Restoration.{Operable, Restored, restorable?, operable?}
 use Rattle.feeding.specs.Safety.{Safe}
 use Rattle.feeding.proofs.Below.{and-left, and-right, and-both, not-in, not-out}
 use Rattle.feeding.proofs.Lows.{lowest-is, lowest-map, lowest-unique, none-place}
 use Rattle.feeding.proofs.Tests.{live?-in, live?-out, dark-out, restorable?-in, restorable?-out, operable?-in, operable?-out}
-use Rattle.planning.specs.Choosing.{CostsLeast, NoneCheaper, Promised, Choice, nothing, chosen, planned}
-use Rattle.planning.proofs.Choices.{PromisedChoice, planned-promised, cheapest-unique}
+use Rattle.planning.specs.Choosing.{CostsLeastBy, CostsLeast, NoneCheaperBy, NoneCheaper, PromisedBy, Promised, Choice, nothing, chosen, planned}
+use Rattle.planning.proofs.Choices.{PromisedChoice, planned-promised, cheapest-unique, promised-least}
 use Rattle.marking.specs.declared.BadStep.{BadStep}
 use Rattle.marking.specs.declared.Examined.{Examined}
 use Rattle.marking.specs.declared.Examined.the-variants.{AllGood, Bad}
 use Rattle.marking.specs.declared.Score.{Score}
 use Rattle.marking.specs.declared.Mark.{Mark}
 use Rattle.marking.specs.declared.Mark.the-variants as Mark·
-use Rattle.marking.specs.Marks.{BrokenBy, StillDark, ValidBy, Marked, broken, short, valid}
-use Rattle.marking.specs.Marks.{stepsExamined, darkPlace, costIn, cheapestCost, scored, markAt, markAfter, markOf}
+use Rattle.marking.specs.Marks.{StillDark, ValidBy, MarkedBy, Marked, broken, short, valid}
+use Rattle.marking.specs.Marks.{stepsExamined, darkPlace, scoredBy, markAt, markAfter, markBy, costIn, cheapestCost, scored, markOf}
 use Rattle.marking.proofs.Examining.{examined-good, good-examined, examined-broken, broken-examined}
-
--- ---- what `markOf` gives, by what the steps and the lowest dark element are found to be
-
-module _ (net : Net) (q : List Step) where
-  -- what the steps are found to be
-  abbrev found : Examined
-  found = stepsExamined net (operable? net) (net .startClosed) 1 q
-
-  -- the lowest restorable element that the steps leave dark
-  abbrev dark : ℕ
-  dark = darkPlace net (run (net .startClosed) q)
-
-  gives-broken : (b : BadStep) → found ≡ Bad b → markOf net q ≡ Mark·.Broken b
-  unfolding markOf markAfter
-  gives-broken b h = ap (markAfter net q) h
-
-  gives-short : found ≡ AllGood → ltb dark (net .grid .E) ≡ true → markOf net q ≡ Mark·.Short dark
-  unfolding markOf markAfter markAt
-  gives-short h t = ap (markAfter net q) h ∙ rw (t, markAt)
-
-  gives-score : found ≡ AllGood → ltb dark (net .grid .E) ≡ false → markOf net q ≡ scored net q
-  unfolding markOf markAfter markAt
-  gives-score h t = ap (markAfter net q) h ∙ rw (t, markAt)
 
 module _ (net : Net) (formed : Formed (net .grid)) where
   -- ---- the elements that are left dark
@@ -72,9 +49,6 @@ module _ (net : Net) (formed : Formed (net .grid)) where
   restored-none : (c : Config) → Restored net c → ltb (darkPlace net c) (net .grid .E) ≡ false
   restored-none c r = none-place (net .grid .E) _ _ (dark-lowest c) (λ e k d. d .dark (r e k (d .restorable)))
 
-  pub restored-dark : (c : Config) → Restored net c → darkPlace net c ≡ net .grid .E
-  restored-dark c r = omega (arith, ltb-false (darkPlace net c) (net .grid .E) (restored-none c r), dark-lowest c .at-most)
-
   pub dark-restored : (c : Config) → net .grid .E ≤ darkPlace net c → Restored net c
   dark-restored c h e k r = go (live? (net .grid) c e) refl
     where
@@ -82,112 +56,157 @@ module _ (net : Net) (formed : Formed (net .grid)) where
       go true t = live?-out (net .grid) formed c e k t
       go false t = absurd (dark-lowest c .none-lower e (omega arith) (record { restorable = r; dark = dark-out (net .grid) formed c e k t }))
 
-  -- ---- the steps, with the operable switches of document 01
+  -- ---- the mark, where `cheapest` is the cheapest cost if there is a valid plan
 
-  found-good : (q : List Step) → found net q ≡ AllGood → Good net (Operable net) (net .startClosed) q
-  found-good q = examined-good net formed (Operable net) (operable? net) (operable?-in net formed) (operable?-out net formed) (net .startClosed) 1 q
+  module _ (op : ℕ → Type 0) (op? : ℕ → Bool) (op-in : (l : ℕ) → op l → op? l ≡ true) (op-out : (l : ℕ) → op? l ≡ true → op l)
+      (price : List Step → ℕ) (cheapest : ℕ)
+      (least-of : (q : List Step) → Valid net op (Restored net) q → CostsLeastBy net op (Restored net) price cheapest) where
+    -- what the steps are found to be
+    abbrev found : List Step → Examined
+    found q = stepsExamined net op? (net .startClosed) 1 q
 
-  good-found : (q : List Step) → Good net (Operable net) (net .startClosed) q → found net q ≡ AllGood
-  good-found q = good-examined net formed (Operable net) (operable? net) (operable?-in net formed) (operable?-out net formed) (net .startClosed) 1 q
+    -- the lowest restorable element that the steps leave dark
+    abbrev dark : List Step → ℕ
+    dark q = darkPlace net (run (net .startClosed) q)
 
-  found-broken : (q : List Step) (b : BadStep) → found net q ≡ Bad b → BrokenBy net (Operable net) q b
-  found-broken = examined-broken net formed (Operable net) (operable? net) (operable?-in net formed) (operable?-out net formed)
+    abbrev mark : List Step → Mark
+    mark q = markBy net op? price cheapest q
 
-  broken-found : (q : List Step) (b : BadStep) → BrokenBy net (Operable net) q b → found net q ≡ Bad b
-  broken-found = broken-examined net formed (Operable net) (operable? net) (operable?-in net formed) (operable?-out net formed)
+    gives-broken : (q : List Step) (b : BadStep) → found q ≡ Bad b → mark q ≡ Mark·.Broken b
+    unfolding markBy markAfter
+    gives-broken q b h = ap (markAfter net (scoredBy price cheapest q) q) h
+
+    gives-short : (q : List Step) → found q ≡ AllGood → ltb (dark q) (net .grid .E) ≡ true → mark q ≡ Mark·.Short (dark q)
+    unfolding markBy markAfter markAt
+    gives-short q h t = ap (markAfter net (scoredBy price cheapest q) q) h ∙ rw (t, markAt)
+
+    gives-score : (q : List Step) → found q ≡ AllGood → ltb (dark q) (net .grid .E) ≡ false → mark q ≡ scoredBy price cheapest q
+    unfolding markBy markAfter markAt
+    gives-score q h t = ap (markAfter net (scoredBy price cheapest q) q) h ∙ rw (t, markAt)
+
+    pub score-room-by : (q : List Step) → Valid net op (Restored net) q → (cost least : ℕ) → cost ≡ price q
+        → CostsLeastBy net op (Restored net) price least → least ≤ cost
+    score-room-by q v cost least e h = omega (arith, h .least q v)
+
+    pub score-is-by : (q : List Step) → Valid net op (Restored net) q → (cost least : ℕ) → cost ≡ price q
+        → CostsLeastBy net op (Restored net) price least → Mark·.Valid (record { cost = cost; excess = cost - least }) ≡ scoredBy price cheapest q
+    unfolding scoredBy
+    score-is-by q v cost least e h = rw (e, cheapest-unique net op (Restored net) price least cheapest h (least-of q v))
+
+    -- ---- the mark is as the paper says
+
+    scored-by : (q : List Step) → Valid net op (Restored net) q → MarkedBy net op price q (scoredBy price cheapest q)
+    unfolding scoredBy
+    scored-by q v =
+        let least = least-of q v in
+        let above : price q ≡ cheapest + (price q - cheapest) = omega (arith, least .least q v) in
+        valid (record { valid = v; own = refl; cheapest = cheapest; least = least; above = above })
+
+    found-good : (q : List Step) → found q ≡ AllGood → Good net op (net .startClosed) q
+    found-good q = examined-good net formed op op? op-in op-out (net .startClosed) 1 q
+
+    pub mark-marked-by : (q : List Step) → MarkedBy net op price q (markBy net op? price cheapest q)
+    mark-marked-by q = go (found q) refl (ltb (dark q) (net .grid .E)) refl
+      where
+        go : (x : Examined) → found q ≡ x → (t : Bool) → ltb (dark q) (net .grid .E) ≡ t → MarkedBy net op price q (mark q)
+        go (Bad b) h t k =
+            subst (MarkedBy net op price q) (sym (gives-broken q b h)) (broken (examined-broken net formed op op? op-in op-out q b h))
+        go AllGood h true t =
+            subst (MarkedBy net op price q) (sym (gives-short q h t))
+            (short (record { good = found-good q h; below = ltb-true _ _ t; lowest = dark-lowest (run (net .startClosed) q) }))
+        go AllGood h false t =
+            subst (MarkedBy net op price q) (sym (gives-score q h t))
+            (scored-by q (record { good = found-good q h; meets = dark-restored (run (net .startClosed) q) (ltb-false _ _ t) }))
+
+    -- ---- and no other is
+
+    good-found : (q : List Step) → Good net op (net .startClosed) q → found q ≡ AllGood
+    good-found q = good-examined net formed op op? op-in op-out (net .startClosed) 1 q
+
+    valid-scored : (q : List Step) → Valid net op (Restored net) q → mark q ≡ scoredBy price cheapest q
+    valid-scored q v = gives-score q (good-found q (v .good)) (restored-none (run (net .startClosed) q) (v .meets))
+
+    pub marked-mark-by : (q : List Step) (m : Mark) → MarkedBy net op price q m → m ≡ markBy net op? price cheapest q
+    marked-mark-by q _ (broken {b} r) = sym (gives-broken q b (broken-examined net formed op op? op-in op-out q b r))
+    marked-mark-by q _ (short {e} r) =
+        let is : e ≡ dark q = lowest-unique (net .grid .E) _ e (dark q) (r .lowest) (dark-lowest (run (net .startClosed) q)) in
+        ap Mark·.Short is ∙ sym (gives-short q (good-found q (r .good)) (lt-ltb (dark q) _ (omega (arith, r .below))))
+    marked-mark-by q _ (valid {v} r) =
+        let excess : v .excess ≡ v .cost - r .cheapest = omega (arith, r .above) in
+        ap (λ (x : ℕ). Mark·.Valid (record { cost = v .cost; excess = x })) excess
+        ∙ score-is-by q (r .valid) (v .cost) (r .cheapest) (r .own) (r .least) ∙ sym (valid-scored q (r .valid))
+
+    -- ---- the mark VALID
+
+    -- what the mark VALID says
+    valid-by : (q : List Step) (v : Score) → mark q ≡ Mark·.Valid v → ValidBy net op price q v
+    valid-by q v e = go (subst (MarkedBy net op price q) e (mark-marked-by q))
+      where
+        go : MarkedBy net op price q (Mark·.Valid v) → ValidBy net op price q v
+        go (valid r) = r
+
+    pub valid-exactly-by : (q : List Step)
+        → (((v : Score) × (markBy net op? price cheapest q ≡ Mark·.Valid v)) → Valid net op (Restored net) q)
+        × (Valid net op (Restored net) q → (v : Score) × (markBy net op? price cheapest q ≡ Mark·.Valid v))
+    unfolding scoredBy
+    valid-exactly-by q = (λ h. valid-by q (h .0) (h .1) .valid, λ v. (_, valid-scored q v))
+
+    -- an excess of 0 says that no valid plan is cheaper
+    pub excess-exactly-by : (q : List Step) (v : Score) → markBy net op? price cheapest q ≡ Mark·.Valid v
+        → (v .excess ≡ 0 → NoneCheaperBy net op (Restored net) price q) × (NoneCheaperBy net op (Restored net) price q → v .excess ≡ 0)
+    excess-exactly-by q v e =
+        let r = valid-by q v e in (
+          λ none q′ v′. omega (arith, r .own, r .above, r .least .least q′ v′),
+          λ none. omega (arith, r .own, r .above, r .least .own, none (r .least .plan) (r .least .valid)),
+        )
+
+    -- a planner's plan has the mark VALID, its printed cost and no excess
+    pub promised-marked-by : (q : List Step) (cost : ℕ) → PromisedBy net op (Restored net) price q cost
+        → markBy net op? price cheapest q ≡ Mark·.Valid (record { cost = cost; excess = 0 })
+    promised-marked-by q cost p =
+        valid-scored q (p .valid)
+        ∙ sym (score-is-by q (p .valid) cost cost (p .own) (promised-least net op (Restored net) price q cost p)) ∙ none-over
+      where
+        none-over : Mark·.Valid (record { cost = cost; excess = cost - cost }) ≡ Mark·.Valid (record { cost = cost; excess = 0 })
+        none-over = let e : cost - cost ≡ 0 = omega arith in rw e
+
+  -- ---- document 01
 
   module _ (start-safe : Safe (net .grid) (net .startClosed)) where
-    -- ---- the cheapest cost
-
     pub cheapest-least : (q : List Step) → ValidPlan net q → CostsLeast net (cheapestCost net)
     unfolding cheapestCost costIn
     cheapest-least q v = go (planned net) (planned-promised net formed start-safe)
       where
         go : (x : Choice) → PromisedChoice net x → CostsLeast net (costIn net x)
         go nothing p = absurd (p q v)
-        go (chosen D) p = record {
-          plan = printedForm net D;
-          valid = p .valid;
-          own = refl;
-          least = λ q′ v′. omega (arith, p .own, p .every q′ v′ .at-least);
-        }
-
-    cheapest-is : (q : List Step) → ValidPlan net q → (least : ℕ) → CostsLeast net least → least ≡ cheapestCost net
-    cheapest-is q v least h = cheapest-unique net (Operable net) (Restored net) (costOf net) least (cheapestCost net) h (cheapest-least q v)
+        go (chosen D) p =
+            subst (CostsLeast net) (p .own) (promised-least net (Operable net) (Restored net) (costOf net) (printedForm net D) _ p)
 
     pub score-room : (q : List Step) → ValidPlan net q → (cost least : ℕ) → cost ≡ costOf net q → CostsLeast net least → least ≤ cost
-    score-room q v cost least e h = omega (arith, h .least q v)
+    score-room = score-room-by (Operable net) (operable? net) (operable?-in net formed) (operable?-out net formed) (costOf net) (cheapestCost net) cheapest-least
 
     pub score-is : (q : List Step) → ValidPlan net q → (cost least : ℕ) → cost ≡ costOf net q → CostsLeast net least
         → Mark·.Valid (record { cost = cost; excess = cost - least }) ≡ scored net q
-    unfolding scored
-    score-is q v cost least e h = rw (e, cheapest-is q v least h)
-
-    -- ---- the mark is as the paper says
-
-    scored-by : (q : List Step) → ValidPlan net q → Marked net q (scored net q)
-    unfolding scored
-    scored-by q v =
-        let least = cheapest-least q v in
-        let above : costOf net q ≡ cheapestCost net + (costOf net q - cheapestCost net) = omega (arith, least .least q v) in
-        valid (record { valid = v; own = refl; cheapest = cheapestCost net; least = least; above = above })
+    score-is = score-is-by (Operable net) (operable? net) (operable?-in net formed) (operable?-out net formed) (costOf net) (cheapestCost net) cheapest-least
 
     pub mark-marked : (q : List Step) → Marked net q (markOf net q)
-    mark-marked q = go (found net q) refl (ltb (dark net q) (net .grid .E)) refl
-      where
-        go : (x : Examined) → found net q ≡ x → (t : Bool) → ltb (dark net q) (net .grid .E) ≡ t → Marked net q (markOf net q)
-        go (Bad b) h t k = subst (Marked net q) (sym (gives-broken net q b h)) (broken (found-broken q b h))
-        go AllGood h true t =
-            subst (Marked net q) (sym (gives-short net q h t))
-            (short (record { good = found-good q h; below = ltb-true _ _ t; lowest = dark-lowest (run (net .startClosed) q) }))
-        go AllGood h false t =
-            subst (Marked net q) (sym (gives-score net q h t))
-            (scored-by q (record { good = found-good q h; meets = dark-restored (run (net .startClosed) q) (ltb-false _ _ t) }))
-
-    -- ---- and no other is
-
-    valid-scored : (q : List Step) → ValidPlan net q → markOf net q ≡ scored net q
-    valid-scored q v = gives-score net q (good-found q (v .good)) (restored-none (run (net .startClosed) q) (v .meets))
+    unfolding markOf
+    mark-marked = mark-marked-by (Operable net) (operable? net) (operable?-in net formed) (operable?-out net formed) (costOf net) (cheapestCost net) cheapest-least
 
     pub marked-mark : (q : List Step) (m : Mark) → Marked net q m → m ≡ markOf net q
-    marked-mark q _ (broken {b} r) = sym (gives-broken net q b (broken-found q b r))
-    marked-mark q _ (short {e} r) =
-        let is : e ≡ dark net q = lowest-unique (net .grid .E) _ e (dark net q) (r .lowest) (dark-lowest (run (net .startClosed) q)) in
-        ap Mark·.Short is ∙ sym (gives-short net q (good-found q (r .good)) (lt-ltb (dark net q) _ (omega (arith, r .below))))
-    marked-mark q _ (valid {v} r) =
-        let excess : v .excess ≡ v .cost - r .cheapest = omega (arith, r .above) in
-        ap (λ (x : ℕ). Mark·.Valid (record { cost = v .cost; excess = x })) excess
-        ∙ score-is q (r .valid) (v .cost) (r .cheapest) (r .own) (r .least) ∙ sym (valid-scored q (r .valid))
-
-    -- ---- the mark VALID
-
-    -- what the mark VALID says
-    valid-by : (q : List Step) (v : Score) → markOf net q ≡ Mark·.Valid v → ValidBy net (Operable net) (costOf net) q v
-    valid-by q v e = go (subst (Marked net q) e (mark-marked q))
-      where
-        go : Marked net q (Mark·.Valid v) → ValidBy net (Operable net) (costOf net) q v
-        go (valid r) = r
+    unfolding markOf
+    marked-mark = marked-mark-by (Operable net) (operable? net) (operable?-in net formed) (operable?-out net formed) (costOf net) (cheapestCost net) cheapest-least
 
     pub valid-exactly : (q : List Step)
         → (((v : Score) × (markOf net q ≡ Mark·.Valid v)) → ValidPlan net q) × (ValidPlan net q → (v : Score) × (markOf net q ≡ Mark·.Valid v))
-    unfolding scored
-    valid-exactly q = (λ h. valid-by q (h .0) (h .1) .valid, λ v. (_, valid-scored q v))
+    unfolding markOf
+    valid-exactly = valid-exactly-by (Operable net) (operable? net) (operable?-in net formed) (operable?-out net formed) (costOf net) (cheapestCost net) cheapest-least
 
-    -- an excess of 0 says that no valid plan is cheaper
     pub excess-exactly : (q : List Step) (v : Score) → markOf net q ≡ Mark·.Valid v
         → (v .excess ≡ 0 → NoneCheaper net q) × (NoneCheaper net q → v .excess ≡ 0)
-    excess-exactly q v e =
-        let r = valid-by q v e in (
-          λ none q′ v′. omega (arith, r .own, r .above, r .least .least q′ v′),
-          λ none. omega (arith, r .own, r .above, r .least .own, none (r .least .plan) (r .least .valid)),
-        )
+    unfolding markOf
+    excess-exactly = excess-exactly-by (Operable net) (operable? net) (operable?-in net formed) (operable?-out net formed) (costOf net) (cheapestCost net) cheapest-least
 
-    -- the planner's plan has the mark VALID, its printed cost and no excess
     pub promised-marked : (q : List Step) (cost : ℕ) → Promised net q cost → markOf net q ≡ Mark·.Valid (record { cost = cost; excess = 0 })
-    promised-marked q cost p = valid-scored q (p .valid) ∙ sym (score-is q (p .valid) cost cost (p .own) least) ∙ none-over
-      where
-        least : CostsLeast net cost
-        least = record { plan = q; valid = p .valid; own = sym (p .own); least = λ q′ v′. p .every q′ v′ .at-least }
-
-        none-over : Mark·.Valid (record { cost = cost; excess = cost - cost }) ≡ Mark·.Valid (record { cost = cost; excess = 0 })
-        none-over = let e : cost - cost ≡ 0 = omega arith in rw e
+    unfolding markOf
+    promised-marked = promised-marked-by (Operable net) (operable? net) (operable?-in net formed) (operable?-out net formed) (costOf net) (cheapestCost net) cheapest-least

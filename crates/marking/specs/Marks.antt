@@ -1,4 +1,4 @@
--- Document 01, the judge's marks: BROKEN, SHORT and VALID for a list of steps. Operable set and cost are parameters.
+-- Document 01, the judge's marks: BROKEN, SHORT and VALID for a list of steps. Operable set and cost are parameters; what computes takes the cheapest cost too.
 -- Assumes nothing.
 use mathlib.Core.Path.{_≡_}
 use mathlib.Core.Bool.{Bool, true, false, not, _&&_}
@@ -79,7 +79,7 @@ pub data MarkedBy (net : Net) (op : ℕ → Type 0) (price : List Step → ℕ) 
 abbrev pub Marked : Net → List Step → Mark → Type 0
 Marked net q m = MarkedBy net (Operable net) (costOf net) q m
 
--- ---- what computes
+-- ---- what computes, for any operable test, cost and cheapest cost
 
 -- step number i, by three tests: whether it operates an operable switch, whether it changes the state, whether what it reaches is safe
 unfoldable pub examined : ℕ → Bool → Bool → Bool → Examined
@@ -106,6 +106,23 @@ stepsExamined net op c i (s ∷ q) = firstBad (stepExamined net op c i s) (steps
 unfoldable pub darkPlace : Net → Config → ℕ
 darkPlace net c = lowest (net .grid .E) (λ e. restorable? net e && not (live? (net .grid) c e))
 
+-- VALID with the cost of the steps, and what of it is above the cheapest cost
+unfoldable pub scoredBy : (List Step → ℕ) → ℕ → List Step → Mark
+scoredBy price cheapest q = Mark·.Valid (record { cost = price q; excess = price q - cheapest })
+
+-- where all steps are good, by the lowest element still dark; `score` where none is
+unfoldable pub markAt : Net → Mark → ℕ → Mark
+markAt net score dark = elim (ltb dark (net .grid .E)) [ true ↦ Mark·.Short dark | false ↦ score ]
+
+unfoldable pub markAfter : Net → Mark → List Step → Examined → Mark
+markAfter net score q AllGood = markAt net score (darkPlace net (run (net .startClosed) q))
+markAfter net score q (Bad b) = Mark·.Broken b
+
+unfoldable pub markBy : Net → (ℕ → Bool) → (List Step → ℕ) → ℕ → List Step → Mark
+markBy net op price cheapest q = markAfter net (scoredBy price cheapest q) q (stepsExamined net op (net .startClosed) 1 q)
+
+-- ---- document 01
+
 -- the cost of the cheapest valid plan; 0 where there is none, and then no list of steps comes so far
 unfoldable pub costIn : Net → Choice → ℕ
 costIn net nothing = 0
@@ -114,17 +131,8 @@ costIn net (chosen D) = costOf net (printedForm net D)
 unfoldable pub cheapestCost : Net → ℕ
 cheapestCost net = costIn net (planned net)
 
-unfoldable pub scored : Net → List Step → Mark
-scored net q = Mark·.Valid (record { cost = costOf net q; excess = costOf net q - cheapestCost net })
+abbrev pub scored : Net → List Step → Mark
+scored net q = scoredBy (costOf net) (cheapestCost net) q
 
--- where all steps are good, by the lowest element still dark
-unfoldable pub markAt : Net → List Step → ℕ → Mark
-markAt net q dark = elim (ltb dark (net .grid .E)) [ true ↦ Mark·.Short dark | false ↦ scored net q ]
-
-unfoldable pub markAfter : Net → List Step → Examined → Mark
-markAfter net q AllGood = markAt net q (darkPlace net (run (net .startClosed) q))
-markAfter net q (Bad b) = Mark·.Broken b
-
--- document 01's mark
 unfoldable pub markOf : Net → List Step → Mark
-markOf net q = markAfter net q (stepsExamined net (operable? net) (net .startClosed) 1 q)
+markOf net q = markBy net (operable? net) (costOf net) (cheapestCost net) q

@@ -18,8 +18,8 @@ use Rattle.network_file.proofs.Decide.{network-decided}
 use Rattle.network_file.specs.Runs as Runs
 use Rattle.feeding.specs.Networks.{Net, netOf}
 use Rattle.feeding.specs.Plans.{Step, ValidPlan, costOf, printedForm}
-use Rattle.acceptance.specs.Reading.{acceptedRead, Judged}
-use Rattle.acceptance.proofs.Promises.{judged-only}
+use Rattle.acceptance.specs.Reading.{acceptedRead, Admission}
+use Rattle.acceptance.proofs.Promises.{admission-only}
 use Rattle.planning.specs.Choosing.{Before, Promised, NoPlan}
 use Rattle.printed.specs.Printing.{stepsOf}
 use Rattle.sums.specs.declared.Sums.{Sums}
@@ -32,15 +32,15 @@ use Rattle.planner.proofs.Promises.{outcome-kept}
 
 -- ---- one judgement of the bytes
 
-judged-once : (s : List ℕ) (r r′ : NetworkRead) → Judged s r → Judged s r′ → r ≡ r′
-judged-once s r r′ j j′ = judged-only s r j ∙ sym (judged-only s r′ j′)
+admission-once : (s : List ℕ) (r r′ : NetworkRead) → Admission s r → Admission s r′ → r ≡ r′
+admission-once s r r′ j j′ = admission-only s r j ∙ sym (admission-only s r′ j′)
 
 accepted-once : (s : List ℕ) (n n′ : Network) → Accepts s n → Accepts s n′ → n ≡ n′
-accepted-once s n n′ a a′ = ap (λ (r : NetworkRead). r .net) (judged-once s _ _ a a′)
+accepted-once s n n′ a a′ = ap (λ (r : NetworkRead). r .net) (admission-once s _ _ a a′)
 
 accepted-unrefused : (s : List ℕ) (n : Network) (f : Refusal) → Accepts s n → ¬ Refuses s f
 accepted-unrefused s n f a r =
-    let same : Answer·.Accepted ≡ Answer·.Refused f = ap (λ (x : NetworkRead). x .answer) (judged-once s _ _ a r) in
+    let same : Answer·.Accepted ≡ Answer·.Refused f = ap (λ (x : NetworkRead). x .answer) (admission-once s _ _ a r) in
     let z : _≡_ {A = ℕ} 0 1 = cc in
     absurd (omega arith)
 
@@ -77,7 +77,7 @@ module _ (s : List ℕ) (bytes : (i : ℕ) → getD s i 0 < 256) where
   pub refused-exactly : (f : Refusal) → (Refuses s f → outcome s .reply ≡ Reply·.Refused f) × (outcome s .reply ≡ Reply·.Refused f → Refuses s f)
   unfolding outcome outcomeRead outcomeAnswered
   refused-exactly f = (
-    λ r. ap (λ (x : NetworkRead). outcomeRead x .reply) (sym (judged-only s _ r)),
+    λ r. ap (λ (x : NetworkRead). outcomeRead x .reply) (sym (admission-only s _ r)),
     λ e. outcome-kept s bytes .refused f e,
   )
 

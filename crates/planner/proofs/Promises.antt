@@ -1,4 +1,4 @@
--- Demands 1, 2 and 3 for the planner's outcome and reply: each case of `Judged` ends in one case of the outcome, which the choice's promise covers.
+-- Demands 1, 2 and 3 for the planner's outcome and reply: each case of `Admission` ends in one case of the outcome, which the choice's promise covers.
 -- Assumes nothing.
 use mathlib.Core.Path.{_≡_, refl, sym, ap, _∙_, subst}
 use mathlib.Core.Bool.{Bool, true, false}
@@ -24,9 +24,9 @@ use Rattle.feeding.specs.Plans.{Step, costOf, printedForm, run, setCost}
 use Rattle.feeding.specs.Restoration.{fedLoad, darkLoad, lostLoad, totalLoad}
 use Rattle.feeding.proofs.Balance.{balance}
 use Rattle.feeding.proofs.Views.{formed-net, fixed-closed, plan-balance}
-use Rattle.acceptance.specs.Reading.{acceptedRead, Judged}
+use Rattle.acceptance.specs.Reading.{acceptedRead, Admission}
 use Rattle.acceptance.specs.Reading as Reading
-use Rattle.acceptance.proofs.Promises.{input-judged, input-starts}
+use Rattle.acceptance.proofs.Promises.{input-admission, input-starts}
 use Rattle.plan_file.specs.declared.plan.Plan.{Plan}
 use Rattle.plan_file.specs.PlanFiles.{emptyPlan}
 use Rattle.plan_writer.specs.declared.Written.the-variants as Written·
@@ -154,7 +154,7 @@ module _ (n : Network) (well : WellFormed n) (starts : Starts (netOf n)) where
 -- ---- the outcome of any bytes
 
 module _ (s : List ℕ) (bytes : (i : ℕ) → getD s i 0 < 256) where
-  read-kept : (r : NetworkRead) → Judged s r → OutcomeKept s (outcomeRead r)
+  read-kept : (r : NetworkRead) → Admission s r → OutcomeKept s (outcomeRead r)
   unfolding outcomeRead outcomeAnswered
   read-kept _ (Reading.unread {r = f} e) = refused-outcome s f emptyPlan (Reading.unread e)
   read-kept _ (Reading.refused {r = f} n e w h) = refused-outcome s f emptyPlan (Reading.refused n e w h)
@@ -163,7 +163,7 @@ module _ (s : List ℕ) (bytes : (i : ℕ) → getD s i 0 < 256) where
 
   pub outcome-kept : OutcomeKept s (outcome s)
   unfolding outcome
-  outcome-kept = read-kept (acceptedRead (networkRead (networkInput s))) (input-judged s bytes)
+  outcome-kept = read-kept (acceptedRead (networkRead (networkInput s))) (input-admission s bytes)
 
 -- ---- the reply with a lent buffer
 
@@ -263,12 +263,12 @@ printed-kept s bytes buffer text e put = (
 -- ---- what was read, for the code that calls `read_accepted`
 
 module _ (s : List ℕ) (bytes : (i : ℕ) → getD s i 0 < 256) (read : NetworkRead) (is : read ≡ acceptedRead (networkRead (networkInput s))) where
-  read-judged : Judged s read
-  read-judged = subst (Judged s) (sym is) (input-judged s bytes)
+  read-admission : Admission s read
+  read-admission = subst (Admission s) (sym is) (input-admission s bytes)
 
   -- an accepted file's network is well formed and starts safe
   pub read-starts : read .answer ≡ Answer·.Accepted → WellFormed (read .net) × Starts (netOf (read .net))
-  read-starts e = input-starts s bytes read read-judged e
+  read-starts e = input-starts s bytes read read-admission e
 
   pub accepted-outcome : read .answer ≡ Answer·.Accepted → outcomeOf (read .net) ≡ outcome s
   unfolding outcome outcomeRead outcomeAnswered
@@ -281,9 +281,9 @@ module _ (s : List ℕ) (bytes : (i : ℕ) → getD s i 0 < 256) (read : Network
       ap (λ (p : Plan). record { reply = Reply·.Refused f; plan = p }) g ∙ ap (outcomeAnswered (read .net)) (sym e) ∙ ap outcomeRead is
 
   pub cheapest-bytes : read .answer ≡ Answer·.Accepted → (r : Cheapest) → CheapestIn (netOf (read .net)) r → CheapestFor s r
-  cheapest-bytes e r h = go read read-judged e h
+  cheapest-bytes e r h = go read read-admission e h
     where
-      go : (x : NetworkRead) → Judged s x → x .answer ≡ Answer·.Accepted → CheapestIn (netOf (x .net)) r → CheapestFor s r
+      go : (x : NetworkRead) → Admission s x → x .answer ≡ Answer·.Accepted → CheapestIn (netOf (x .net)) r → CheapestFor s r
       go _ (Reading.unread _) e h = let z : _≡_ {A = ℕ} 0 1 = cc in absurd (omega arith)
       go _ (Reading.refused _ _ _ _) e h = let z : _≡_ {A = ℕ} 0 1 = cc in absurd (omega arith)
       go _ (Reading.accepted n q w a) e h = Promises.accepted n (Reading.accepted n q w a) h

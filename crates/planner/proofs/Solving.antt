@@ -15,7 +15,7 @@ use Rattle.feeding.specs.Below.{gate, bits}
 use Rattle.feeding.specs.Networks.{Net, gridOf, netOf, at, isIn}
 use Rattle.feeding.specs.Parts.{Config, closedIn}
 use Rattle.feeding.specs.Plans.{Step, put, run, costOf, printedForm, flip, setCost}
-use Rattle.feeding.specs.Restoration.{operable?, operables, restorable?, fedLoad, darkLoad, lostLoad}
+use Rattle.feeding.specs.Restoration.{Operable, Restored, operable?, operables, restorable?, fedLoad, darkLoad, lostLoad}
 use Rattle.feeding.proofs.Bits.{at-bits}
 use Rattle.feeding.proofs.Lows.{those-out}
 use Rattle.feeding.proofs.Printed.{printed-cost, printed-run}
@@ -25,14 +25,15 @@ use Rattle.feeding.proofs.Views.{formed-net}
 use Rattle.plan_file.specs.declared.plan.Plan.{Plan}
 use Rattle.plan_file.specs.PlanFiles.{emptyPlan}
 use Rattle.planning.specs.declared.Best.{Best}
-use Rattle.planning.specs.Choosing.{nothing, chosen, planned, Promised}
+use Rattle.planning.specs.Choosing.{CostsLeast, nothing, chosen, planned}
 use Rattle.planning.specs.Sets.{setOf, switchesOf, cheapestSet, choiceOf}
-use Rattle.planning.proofs.Choices.{PromisedChoice, planned-promised}
+use Rattle.planning.proofs.Choices.{PromisedChoice, planned-promised, promised-least}
 use Rattle.planning.proofs.Rising.{at-member}
 use Rattle.planning.proofs.Scans.{choice-chosen, choice-nothing, choice-planned, cheapest-fair}
 use Rattle.printed.specs.Printing.{planWith, formOf}
 use Rattle.printed.proofs.Steps.{with-count, empty-steps, form-printed}
 use Rattle.sets.specs.Sets.{oneOf}
+use Rattle.restoration.proofs.Sets.{closed-at}
 use Rattle.sums.specs.declared.Sums.{Sums}
 use Rattle.sums.specs.Sums.{sumsAfter}
 use Rattle.planner.specs.declared.Outcome.{Outcome}
@@ -100,15 +101,10 @@ module _ (n : Network) (well : WellFormed n) where
     -- ---- the cheapest cost
 
     pub cheapest-found : Starts (netOf n) → best .cost < 18446744073709551615 → CheapestIn (netOf n) (Cheapest·.Cost (best .cost))
-    cheapest-found starts h = record {
-      plan = printedForm (netOf n) (switchesOf (netOf n) (best .set));
-      valid = promise .valid;
-      own = solved-cost h;
-      least = λ q v. omega (arith, best-cost h, promise .every q v .at-least);
-    }
-      where
-        promise : Promised (netOf n) (printedForm (netOf n) (switchesOf (netOf n) (best .set))) (setCost (netOf n) (switchesOf (netOf n) (best .set)))
-        promise = subst (PromisedChoice (netOf n)) (planned-found h) (planned-promised (netOf n) (formed-net n well) (starts .safe))
+    cheapest-found starts h =
+        subst (CostsLeast (netOf n)) (sym (best-cost h))
+        (promised-least (netOf n) (Operable (netOf n)) (Restored (netOf n)) (costOf (netOf n)) _ _
+        (subst (PromisedChoice (netOf n)) (planned-found h) (planned-promised (netOf n) (formed-net n well) (starts .safe))))
 
     pub cheapest-none : Starts (netOf n) → 18446744073709551615 ≤ best .cost → CheapestIn (netOf n) Cheapest·.NoPlan
     cheapest-none starts h =
@@ -148,19 +144,12 @@ module _ (n : Network) (well : WellFormed n) (start : List ℕ) (start-is : star
       ∙ at-bits 96 (n .links) _ l (omega (arith, well .links-fit))
       ∙ rw (lt-ltb l (n .links) k)
 
-  start-closed : (l : ℕ) → l < netOf n .grid .K → closedIn start l ≡ netOf n .startClosed l
-  start-closed l k = ap (λ (x : ℕ). eqb x 1) (start-at l k) ∙ go (netOf n .startClosed l)
-    where
-      go : (b : Bool) → eqb (gate b 1) 1 ≡ b
-      go true = refl
-      go false = refl
-
   pub unplanned-is : (sums : Sums) → sums ≡ sumsAfter (netOf n) (closedIn start) → (plan : Plan) → plan ≡ emptyPlan
       → _≡_ {A = Outcome} (record { reply = Reply·.NoPlan sums; plan = plan }) (unplanned n)
   unfolding unplanned
   unplanned-is sums e plan f =
       ap₂ (λ (l : Sums) (p : Plan). record { reply = Reply·.NoPlan l; plan = p })
-      (e ∙ sums-same (netOf n) (closedIn start) (netOf n .startClosed) start-closed) f
+      (e ∙ sums-same (netOf n) (closedIn start) (netOf n .startClosed) (λ l k. closed-at n well start start-is l (omega (arith, links-are)))) f
 
   pub planned-is : (set : ℕ) (operated states : List ℕ)
       → ((l : ℕ) → l < n .links → isIn operated l ≡ switchesOf (netOf n) set l)

@@ -15,7 +15,7 @@ use Rattle.feeding.specs.Networks.{Net, netOf}
 use Rattle.feeding.specs.Parts.{Config}
 use Rattle.feeding.specs.Plans.{run}
 use Rattle.feeding.specs.Restoration.{totalLoad, fedLoad, darkLoad, lostLoad}
-use Rattle.acceptance.specs.Reading.{Judged}
+use Rattle.acceptance.specs.Reading.{Admission}
 use Rattle.plan_file.specs.declared.plan.Plan.{Plan}
 use Rattle.plan_writer.specs.Writing.{planBytes}
 use Rattle.planning.specs.Choosing.{Promised, NoPlan, CostsLeast}
@@ -30,11 +30,11 @@ use Rattle.planner.specs.declared.Cheapest.the-variants as Cheapest·
 
 -- the bytes s are a network file that keeps rules 1 to 18, and n is what it states
 abbrev pub Accepts : List ℕ → Network → Type 0
-Accepts s n = Judged s (record { answer = Answer·.Accepted; net = n })
+Accepts s n = Admission s (record { answer = Answer·.Accepted; net = n })
 
 -- f is the first rule of 1 to 18 that s breaks, with its place
 abbrev pub Refuses : List ℕ → Refusal → Type 0
-Refuses s f = Judged s (record { answer = Answer·.Refused f; net = emptyNetwork })
+Refuses s f = Admission s (record { answer = Answer·.Refused f; net = emptyNetwork })
 
 -- the sums of the LOAD line in the configuration c: "Their sum equals the total of all own loads."
 pub record LoadsIn (net : Net) (c : Config) (l : Sums) : Type 0 where

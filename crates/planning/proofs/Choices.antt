@@ -353,3 +353,8 @@ planned-promised net formed start-safe =
 pub cheapest-unique : (net : Net) (op : ℕ → Type 0) (goal : Config → Type 0) (price : List Step → ℕ) (a b : ℕ) → CostsLeastBy net op goal price a
     → CostsLeastBy net op goal price b → a ≡ b
 cheapest-unique net op goal price a b x y = omega (arith, x .own, y .own, x .least (y .plan) (y .valid), y .least (x .plan) (x .valid))
+
+-- a printed plan's cost is the cheapest one
+pub promised-least : (net : Net) (op : ℕ → Type 0) (goal : Config → Type 0) (price : List Step → ℕ) (q : List Step) (cost : ℕ)
+    → PromisedBy net op goal price q cost → CostsLeastBy net op goal price cost
+promised-least net op goal price q cost p = record { plan = q; valid = p .valid; own = sym (p .own); least = λ q′ v. p .every q′ v .at-least }

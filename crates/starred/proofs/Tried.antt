@@ -26,7 +26,7 @@ use Rattle.plan_writer.specs.Writing.{planHeadBytes, stepBytes, endBytes}
 use Rattle.texts.specs.Texts.{digits, decimal, field, lineOf, refusedLine}
 use Rattle.lines.specs.Lines.{planLine, stepLine, stepLines, loadLine, planLines, noneLines}
 use Rattle.planner.specs.Replies.{plannedBy, unplanned, outcomeFrom, outcomeOf, outcomeAnswered, outcomeRead, outcome, linesWith, linesOf}
-use Rattle.marking.specs.Marks.{examined, firstBad, stepExamined, stepsExamined, darkPlace, costIn, cheapestCost, scored, markAt, markAfter, markOf}
+use Rattle.marking.specs.Marks.{examined, firstBad, stepExamined, stepsExamined, darkPlace, scoredBy, markAt, markAfter, markBy, costIn, cheapestCost, markOf}
 use Rattle.mark_lines.specs.MarkLines.{markLine}
 use Rattle.judge.specs.Judging.{markAccepted, markRead, markOfRead, markFor}
 use Rattle.starred.specs.Tables.{head, element, joins, networkB, networkD, noSteps, closing, text, prints, plans, marks, cases}
@@ -41,6 +41,6 @@ unfolding emptyNetwork nextStage word lengthOf frameRules headRules elementRules
     acceptedFrom acceptedRead works? firstIf cheaper best planned sumsAfter emptyPlan withOne planWith endBytes digits decimal field planLine
     stepLine stepLines loadLine planLines noneLines refusedLine plannedBy unplanned outcomeFrom outcomeOf outcomeAnswered outcomeRead
     outcome linesWith linesOf withStep planEndOn stepsOn planFile planInput planBehind bothInput bothRead stepsTo stepsOf examined firstBad
-    stepExamined stepsExamined darkPlace costIn cheapestCost scored markAt markAfter markOf lineOf markLine markAccepted markRead markOfRead
+    stepExamined stepsExamined darkPlace scoredBy markAt markAfter markBy costIn cheapestCost markOf lineOf markLine markAccepted markRead markOfRead
     markFor planHeadBytes stepBytes head element joins networkB networkD noSteps closing text prints plans marks cases
 tried = refl

@@ -11,11 +11,11 @@ use Rattle.examining.proofs.examine.Statement.{statement}
 use Rattle.examining.proofs.examine.Tie as tie
 
 abbrev Inv-loop : tie.InvT-loop
-Inv-loop net plan load capacity flags from to head next far operable closed₀ count i₀ closed i =
-    Examining net plan closed i
+Inv-loop net operable plan load capacity flags from to head next far closed₀ count i₀ closed i =
+    Examining net operable plan closed i
 
 abbrev μ-loop : tie.MeasureT-loop
-μ-loop net plan load capacity flags from to head next far operable closed₀ count i₀ closed i = count - i
+μ-loop net operable plan load capacity flags from to head next far closed₀ count i₀ closed i = count - i
 
 slice-aggregate-own-ends : tie.Need-slice-aggregate-own-ends Inv-loop μ-loop
 slice-aggregate-own-ends c = search needs
@@ -25,12 +25,9 @@ slice-aggregate-own-ends-2 c = search needs
 
 own-ends-requires : tie.Need-own-ends-requires Inv-loop μ-loop
 own-ends-requires c κs =
-    let args· = c .before .before .before .before .before .before .before .before .args in
-    let pre· = c .before .before .before .before .before .before .before .before .pre in
+    let args· = c .before .before .before .before .before .before .before .before .before .args in
+    let pre· = c .before .before .before .before .before .before .before .before .before .pre in
     two-ends (args· .net) (pre· .0)
-
-operable-switches-requires : tie.Need-operable-switches-requires Inv-loop μ-loop
-operable-switches-requires c κs = search needs
 
 slice-aggregate-members-of : tie.Need-slice-aggregate-members-of Inv-loop μ-loop
 slice-aggregate-members-of c = search needs
@@ -46,7 +43,7 @@ loop-holds c =
     let args· = c .before .before .before .before .before .before .before .before .before .before .before .before .before .before .before .args in
     let pre· = c .before .before .before .before .before .before .before .before .before .before .before .before .before .before .before .pre in
     let members-of· = c .members-of in
-    first-turn (args· .net) (pre· .0) (args· .t2) (pre· .1) (members-of· .result) (members-of· .ensures)
+    first-turn (args· .net) (pre· .0) (args· .operable .now) (args· .t3) (pre· .1 .1) (members-of· .result) (members-of· .ensures)
 
 mul-link : tie.Need-mul-link Inv-loop μ-loop
 mul-link c = omega arith
@@ -57,7 +54,7 @@ element-copy-out-link c = omega arith
 cast-link : tie.Need-cast-link Inv-loop μ-loop
 cast-link c =
     let pre· = c .before .before .before .before .before .before .before .before .before .before .before .before .before .before .before .before .before .before .pre in
-    omega (arith, pre· .0 .links-fit, pre· .1 .link-in (c .before .before .loop .i) (omega arith))
+    omega (arith, pre· .0 .links-fit, pre· .1 .1 .link-in (c .before .before .loop .i) (omega arith))
 
 element-copy-out-state-of : tie.Need-element-copy-out-state-of Inv-loop μ-loop
 element-copy-out-state-of c = omega arith
@@ -69,13 +66,13 @@ array-read-state : tie.Need-array-read-state Inv-loop μ-loop
 array-read-state c =
     let pre· = c .before .before .before .before .before .before .before .before .before .before .before .before .before .before .before .before .before .before .before .before .pre in
     let loop· = c .before .before .before .before .loop in
-    omega (arith, pre· .0 .links-fit, pre· .1 .link-in (loop· .i) (omega arith))
+    omega (arith, pre· .0 .links-fit, pre· .1 .1 .link-in (loop· .i) (omega arith))
 
 array-write-closed : tie.Need-array-write-closed Inv-loop μ-loop
 array-write-closed c =
     let pre· = c .before .before .before .before .before .before .before .before .before .before .before .before .before .before .before .before .before .before .before .before .pre in
     let loop· = c .before .before .before .before .loop in
-    omega (arith, pre· .0 .links-fit, pre· .1 .link-in (loop· .i) (omega arith))
+    omega (arith, pre· .0 .links-fit, pre· .1 .1 .link-in (loop· .i) (omega arith))
 
 slice-aggregate-check : tie.Need-slice-aggregate-check Inv-loop μ-loop
 slice-aggregate-check c = search needs
@@ -108,7 +105,7 @@ check-requires : tie.Need-check-requires Inv-loop μ-loop
 check-requires c κs =
     let args· = c .before .before .before .before .before .before .before .before .before .before .before .before .before .before .before .before .before .before .before .before .before .before .before .before .before .before .before .before .before .args in
     let pre· = c .before .before .before .before .before .before .before .before .before .before .before .before .before .before .before .before .before .before .before .before .before .before .before .before .before .before .before .before .before .pre in
-    let own-ends· = c .before .before .before .before .before .before .before .before .before .before .before .before .before .before .before .before .before .before .before .before .own-ends in
+    let own-ends· = c .before .before .before .before .before .before .before .before .before .before .before .before .before .before .before .before .before .before .before .own-ends in
     let loop· = c .before .before .before .before .before .before .before .before .before .before .before .before .before .loop in
     checked (args· .net) (pre· .0) (own-ends· .result) _ (own-ends· .ensures) (length-set (loop· .closed) _ _ ∙ loop· .inv .long)
 
@@ -116,13 +113,13 @@ add-examine-step : tie.Need-add-examine-step Inv-loop μ-loop
 add-examine-step c =
     let loop-test· = c .before .before .before .before .before .before .before .before .before .before .before .before .before .loop-test in
     let pre· = c .before .before .before .before .before .before .before .before .before .before .before .before .before .before .before .before .before .before .before .before .before .before .before .before .before .before .before .before .before .before .pre in
-    omega (arith, loop-test· .taken, pre· .1 .steps-fit)
+    omega (arith, loop-test· .taken, pre· .1 .1 .steps-fit)
 
-array-read-examine-step : tie.Need-array-read-examine-step Inv-loop μ-loop
-array-read-examine-step c =
-    let pre· = c .before .before .before .before .before .before .before .before .before .before .before .before .before .before .before .before .before .before .before .before .before .before .before .before .before .before .before .before .before .before .pre in
-    let loop· = c .before .before .before .before .before .before .before .before .before .before .before .before .before .before .loop in
-    omega (arith, pre· .0 .links-fit, pre· .1 .link-in (loop· .i) (omega arith))
+shared-slice-read-examine-step : tie.Need-shared-slice-read-examine-step Inv-loop μ-loop
+shared-slice-read-examine-step c =
+    let pre· = c .before .before .before .before .before .before .before .before .before .before .before .before .before .before .before .before .before .before .before .before .before .before .before .before .before .before .before .before .before .before .before .pre in
+    let loop· = c .before .before .before .before .before .before .before .before .before .before .before .before .before .before .before .loop in
+    omega (arith, pre· .1 .0, pre· .1 .1 .link-in (loop· .i) (omega arith))
 
 examine-step-requires : tie.Need-examine-step-requires Inv-loop μ-loop
 examine-step-requires c κs = search needs
@@ -130,52 +127,50 @@ examine-step-requires c κs = search needs
 enum-told : tie.Need-enum-told Inv-loop μ-loop
 enum-told c = search needs
 
+enum-told-2 : tie.Need-enum-told-2 Inv-loop μ-loop
+enum-told-2 c = search needs
+
+returns : tie.Need-returns Inv-loop μ-loop
+returns c =
+    let args· = c .before .before .before .before .before .before .before .before .before .before .before .before .before .before .before .before .before .before .before .before .before .before .before .before .before .before .before .before .before .before .before .before .before .before .args in
+    let pre· = c .before .before .before .before .before .before .before .before .before .before .before .before .before .before .before .before .before .before .before .before .before .before .before .before .before .before .before .before .before .before .before .before .before .before .pre in
+    let loop· = c .before .before .before .before .before .before .before .before .before .before .before .before .before .before .before .before .before .before .loop in
+    let loop-test· = c .before .before .before .before .before .before .before .before .before .before .before .before .before .before .before .before .before .loop-test in
+    let state-of· = c .before .before .before .before .before .before .before .before .before .before .before .before .before .before .state-of in
+    let check· = c .before .before .before .before .check in
+    let examine-step· = c .before .before .examine-step in
+    bad-turn (args· .net) (pre· .0) (args· .operable .now) (args· .t3) (pre· .1 .1) (loop· .closed) (loop· .i) (loop· .inv) (omega (arith, loop-test· .taken))
+    _ (omega (arith, state-of· .ensures)) _ refl (check· .result) (check· .ensures)
+    (examine-step· .result) (examine-step· .ensures) _ (c .enum-told2 .given .1)
+
 add-i : tie.Need-add-i Inv-loop μ-loop
 add-i c =
-    let loop-test· = c .before .before .before .before .before .before .before .before .before .before .before .before .before .before .before .before .loop-test in
-    let pre· = c .before .before .before .before .before .before .before .before .before .before .before .before .before .before .before .before .before .before .before .before .before .before .before .before .before .before .before .before .before .before .before .before .before .pre in
-    omega (arith, loop-test· .taken, pre· .1 .steps-fit)
+    let loop-test· = c .before .before .before .before .before .before .before .before .before .before .before .before .before .before .before .before .before .loop-test in
+    let pre· = c .before .before .before .before .before .before .before .before .before .before .before .before .before .before .before .before .before .before .before .before .before .before .before .before .before .before .before .before .before .before .before .before .before .before .pre in
+    omega (arith, loop-test· .taken, pre· .1 .1 .steps-fit)
 
 loop-less : tie.Need-loop-less Inv-loop μ-loop
 loop-less c = omega arith
 
 loop-again : tie.Need-loop-again Inv-loop μ-loop
 loop-again c =
-    let args· = c .before .before .before .before .before .before .before .before .before .before .before .before .before .before .before .before .before .before .before .before .before .before .before .before .before .before .before .before .before .before .before .before .before .args in
-    let pre· = c .before .before .before .before .before .before .before .before .before .before .before .before .before .before .before .before .before .before .before .before .before .before .before .before .before .before .before .before .before .before .before .before .before .pre in
-    let loop· = c .before .before .before .before .before .before .before .before .before .before .before .before .before .before .before .before .before .loop in
-    let loop-test· = c .before .before .before .before .before .before .before .before .before .before .before .before .before .before .before .before .loop-test in
-    let state-of· = c .before .before .before .before .before .before .before .before .before .before .before .before .before .state-of in
-    let check· = c .before .before .before .check in
-    let operable-switches· = c .before .before .before .before .before .before .before .before .before .before .before .before .before .before .before .before .before .before .before .before .operable-switches in
+    let args· = c .before .before .before .before .before .before .before .before .before .before .before .before .before .before .before .before .before .before .before .before .before .before .before .before .before .before .before .before .before .before .before .before .before .before .args in
+    let pre· = c .before .before .before .before .before .before .before .before .before .before .before .before .before .before .before .before .before .before .before .before .before .before .before .before .before .before .before .before .before .before .before .before .before .before .pre in
+    let loop· = c .before .before .before .before .before .before .before .before .before .before .before .before .before .before .before .before .before .before .loop in
+    let loop-test· = c .before .before .before .before .before .before .before .before .before .before .before .before .before .before .before .before .before .loop-test in
+    let state-of· = c .before .before .before .before .before .before .before .before .before .before .before .before .before .before .state-of in
+    let check· = c .before .before .before .before .check in
     let examine-step· = c .before .before .examine-step in
-    good-turn (args· .net) (pre· .0) (args· .t2) (pre· .1) (loop· .closed) (loop· .i) (loop· .inv) (omega (arith, loop-test· .taken))
-    _ (omega (arith, state-of· .ensures)) _ refl (check· .result) (check· .ensures) (operable-switches· .result) (operable-switches· .ensures)
+    good-turn (args· .net) (pre· .0) (args· .operable .now) (args· .t3) (pre· .1 .1) (loop· .closed) (loop· .i) (loop· .inv) (omega (arith, loop-test· .taken))
+    _ (omega (arith, state-of· .ensures)) _ refl (check· .result) (check· .ensures)
     (examine-step· .result) (examine-step· .ensures) _ (omega arith) (c .enum-told .given .1)
-
-enum-told-2 : tie.Need-enum-told-2 Inv-loop μ-loop
-enum-told-2 c = search needs
-
-returns : tie.Need-returns Inv-loop μ-loop
-returns c =
-    let args· = c .before .before .before .before .before .before .before .before .before .before .before .before .before .before .before .before .before .before .before .before .before .before .before .before .before .before .before .before .before .before .before .before .before .args in
-    let pre· = c .before .before .before .before .before .before .before .before .before .before .before .before .before .before .before .before .before .before .before .before .before .before .before .before .before .before .before .before .before .before .before .before .before .pre in
-    let loop· = c .before .before .before .before .before .before .before .before .before .before .before .before .before .before .before .before .before .loop in
-    let loop-test· = c .before .before .before .before .before .before .before .before .before .before .before .before .before .before .before .before .loop-test in
-    let state-of· = c .before .before .before .before .before .before .before .before .before .before .before .before .before .state-of in
-    let check· = c .before .before .before .check in
-    let operable-switches· = c .before .before .before .before .before .before .before .before .before .before .before .before .before .before .before .before .before .before .before .before .operable-switches in
-    let examine-step· = c .before .before .examine-step in
-    bad-turn (args· .net) (pre· .0) (args· .t2) (pre· .1) (loop· .closed) (loop· .i) (loop· .inv) (omega (arith, loop-test· .taken))
-    _ (omega (arith, state-of· .ensures)) _ refl (check· .result) (check· .ensures) (operable-switches· .result) (operable-switches· .ensures)
-    (examine-step· .result) (examine-step· .ensures) _ (c .enum-told2 .given .1)
 
 returns-2 : tie.Need-returns-2 Inv-loop μ-loop
 returns-2 c =
     let args· = c .before .before .before .before .before .before .before .before .before .before .before .before .before .before .before .before .before .args in
     let pre· = c .before .before .before .before .before .before .before .before .before .before .before .before .before .before .before .before .before .pre in
     let loop· = c .before .loop in
-    last-turn (args· .net) (pre· .0) (args· .t2) (pre· .1) (loop· .closed) (loop· .i) (loop· .inv) (omega arith)
+    last-turn (args· .net) (pre· .0) (args· .operable .now) (args· .t3) (pre· .1 .1) (loop· .closed) (loop· .i) (loop· .inv) (omega arith)
 
 pub examine-spec : {M : Type 1} → statement M
 examine-spec =
@@ -186,7 +181,6 @@ examine-spec =
     slice-aggregate-own-ends
     slice-aggregate-own-ends-2
     own-ends-requires
-    operable-switches-requires
     slice-aggregate-members-of
     members-of-requires
     cast-count
@@ -209,12 +203,12 @@ examine-spec =
     slice-aggregate-check-9
     check-requires
     add-examine-step
-    array-read-examine-step
+    shared-slice-read-examine-step
     examine-step-requires
     enum-told
+    enum-told-2
+    returns
     add-i
     loop-less
     loop-again
-    enum-told-2
-    returns
     returns-2)

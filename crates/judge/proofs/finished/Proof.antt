@@ -41,7 +41,7 @@ returns c =
     let pre· = c .before .before .before .before .before .before .before .before .pre in
     let members-of· = c .before .before .before .before .before .members-of in
     let states-after· = c .before .before .before .before .states-after in
-    short-at (netOf (args· .net)) (stepsOf (args· .plan)) _ (lowest-dark· .result) (lowest-dark· .ensures ∙ finished-dark (args· .net) (args· .plan) _ _ (pre· .0 .0) (pre· .1 .0) (members-of· .ensures) (states-after· .ensures)) (omega arith)
+    short-at (netOf (args· .net)) _ _ (lowest-dark· .result) (lowest-dark· .ensures ∙ finished-dark (args· .net) (args· .plan) _ _ (pre· .0 .0) (pre· .1 .0) (members-of· .ensures) (states-after· .ensures)) (omega arith)
 
 score-requires : tie.Need-score-requires
 unfolding netOf gridOf
@@ -61,7 +61,7 @@ returns-2 c =
     let pre· = c .before .before .before .before .before .before .before .before .before .pre in
     let members-of· = c .before .before .before .before .before .before .members-of in
     let states-after· = c .before .before .before .before .before .states-after in
-    scored-at (netOf (args· .net)) (stepsOf (args· .plan)) _ (lowest-dark· .result) (lowest-dark· .ensures ∙ finished-dark (args· .net) (args· .plan) _ _ (pre· .0 .0) (pre· .1 .0) (members-of· .ensures) (states-after· .ensures)) (omega arith) _ (c .score .ensures)
+    scored-at (netOf (args· .net)) _ _ (lowest-dark· .result) (lowest-dark· .ensures ∙ finished-dark (args· .net) (args· .plan) _ _ (pre· .0 .0) (pre· .1 .0) (members-of· .ensures) (states-after· .ensures)) (omega arith) _ (c .score .ensures)
 
 pub finished-spec : {M : Type 1} → statement M
 finished-spec =
