@@ -4,13 +4,13 @@ pub mod draw;
 
 use draw::draw;
 use draw::happens;
-use enumeration::Network;
-use enumeration::add;
-use enumeration::at;
-use enumeration::broken_in;
-use enumeration::links_where;
-use enumeration::opening;
-use enumeration::put;
+use surveys::Network;
+use surveys::add;
+use surveys::at;
+use surveys::broken_in;
+use surveys::links_where;
+use surveys::opening;
+use surveys::put;
 
 // What a network is drawn by. Chances are so many in 16.
 struct Shape {

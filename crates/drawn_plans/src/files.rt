@@ -1,7 +1,7 @@
 // Networks and plans as the bytes of their files.
-use enumeration::Network;
-use enumeration::at;
-use enumeration::entry;
+use surveys::Network;
+use surveys::at;
+use surveys::entry;
 
 // A number of two bytes, low byte first.
 fn put_word(file: &mut [u8; 4096], n: usize, value: usize) -> usize {

@@ -4,15 +4,15 @@ pub mod files;
 
 use drawn_networks::draw::draw;
 use drawn_networks::draw::happens;
-use enumeration::Network;
-use enumeration::Study;
-use enumeration::Switches;
-use enumeration::add;
-use enumeration::at;
-use enumeration::enter;
-use enumeration::has;
-use enumeration::links_where;
-use enumeration::put;
+use surveys::Network;
+use surveys::Study;
+use surveys::Switches;
+use surveys::add;
+use surveys::at;
+use surveys::enter;
+use surveys::has;
+use surveys::links_where;
+use surveys::put;
 
 // How many ways there are to change the plan.
 pub const WAYS: usize = 10;

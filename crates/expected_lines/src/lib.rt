@@ -1,18 +1,18 @@
 // The lines that the planner and the judge should print, from what the enumeration found; written from document 01 alone and with no code of the
 // planner's or the judge's. Its functions are proved safe and promise nothing else.
-use enumeration::LIMIT;
-use enumeration::Network;
-use enumeration::Study;
-use enumeration::Switches;
-use enumeration::add;
-use enumeration::at;
-use enumeration::broken_in;
-use enumeration::entry;
-use enumeration::has;
-use enumeration::links_where;
-use enumeration::live_in;
-use enumeration::put;
-use enumeration::turned;
+use surveys::LIMIT;
+use surveys::Network;
+use surveys::Study;
+use surveys::Switches;
+use surveys::add;
+use surveys::at;
+use surveys::broken_in;
+use surveys::entry;
+use surveys::has;
+use surveys::links_where;
+use surveys::live_in;
+use surveys::put;
+use surveys::turned;
 
 // How a submitted plan went.
 struct Tried {

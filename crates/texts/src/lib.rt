@@ -60,6 +60,7 @@ pub fn put_feed(out: &mut [u8], at: usize) -> usize
 // A line of a word and two numbers.
 pub fn put_line(out: &mut [u8], at: usize, word: &[u8], first: u64, second: u64) -> usize
     requires { ⌜ at + length (now word) + 43 ≤ length (now out) ⌝ }
+    ensures { λ r. ⌜ r ≤ at + length (now (word .entry)) + 43 ⌝ }
     ensures { λ r. ⌜ r ≡ at + length (lineOf (now (word .entry)) first second) ⌝ }
     ensures { λ _. ⌜ now (out .exit) ≡ sets (now (out .entry)) at (lineOf (now (word .entry)) first second) ⌝ }
 {

@@ -3,15 +3,15 @@ use drawn_plans::WAYS;
 use drawn_plans::files::put_network;
 use drawn_plans::files::put_plan;
 use drawn_plans::sampled;
-use enumeration::LIMIT;
-use enumeration::Network;
-use enumeration::Study;
-use enumeration::add;
-use enumeration::at;
-use enumeration::put;
 use enumeration::studied;
 use expected_lines::mark_text;
 use expected_lines::reply_text;
+use surveys::LIMIT;
+use surveys::Network;
+use surveys::Study;
+use surveys::add;
+use surveys::at;
+use surveys::put;
 
 // Where the counts of networks with 12 operable switches and of differences stand; the kinds of replies and marks stand from 0 to 13.
 pub const TWELVE: usize = 14;

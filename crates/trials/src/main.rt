@@ -3,8 +3,8 @@
 mod compare;
 
 use drawn_networks::drawn;
-use enumeration::at;
 use libc::STDOUT_FILENO;
+use surveys::at;
 
 // How many networks are drawn.
 const NETWORKS: usize = 4000;

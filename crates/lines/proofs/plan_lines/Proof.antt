@@ -2,8 +2,7 @@
 -- Assumes nothing.
 use native.Mathlib.Omega.{arith}
 use Rattle.lines.proofs.Lines.{plan-lines-put, load-length}
-use Rattle.texts.proofs.Pieces.{line-of-length}
-use Rattle.lines.specs.Lines.{planWord, planLine}
+use Rattle.lines.specs.Lines.{planLine}
 use borrow.Author.Needs.{needs}
 use Rattle.lines.proofs.plan_lines.Statement.{statement}
 use Rattle.lines.proofs.plan_lines.Tie as tie
@@ -18,23 +17,18 @@ put-line-requires : tie.Need-put-line-requires
 put-line-requires c κs = search needs
 
 put-steps-requires : tie.Need-put-steps-requires
-put-steps-requires c κs =
-    let a = c .before .before .before .before .before .args in
-    omega (arith, line-of-length planWord (a .plan .steps) (a .cost) (omega arith) (omega arith))
+put-steps-requires c κs = omega arith
 
 put-load-requires : tie.Need-put-load-requires
-put-load-requires c κs =
-    let a = c .before .before .before .before .before .before .before .args in
-    omega (arith, line-of-length planWord (a .plan .steps) (a .cost) (omega arith) (omega arith))
+put-load-requires c κs = omega arith
 
 returns : tie.Need-returns
 unfolding planLine
 returns c =
     let a = c .before .before .before .before .before .before .before .before .args in
     let head-put = c .before .before .before .before .put-line in
-    let head = line-of-length planWord (a .plan .steps) (a .cost) (omega arith) (omega arith) in
     let last = load-length (a .sums) (omega arith) (omega arith) (omega arith) in
-    plan-lines-put (a .out .now) _ _ _ _ _ _ (a .plan) (a .cost) (a .sums) (omega (arith, head, last)) (head-put .ensures)
+    plan-lines-put (a .out .now) _ _ _ _ _ _ (a .plan) (a .cost) (a .sums) (omega (arith, last)) (head-put .ensures .1)
     (c .before .before .put-steps .ensures .1) (c .put-load .ensures)
 
 pub plan-lines-spec : {M : Type 1} → statement M

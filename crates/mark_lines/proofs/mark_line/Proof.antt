@@ -1,8 +1,7 @@
 -- `mark_lines::mark_line` meets its contract: each arm writes its case's line, whose length is bounded by the digits of 64 bits.
 -- Assumes nothing.
 use native.Mathlib.Omega.{arith}
-use Rattle.texts.proofs.Pieces.{field-64, line-of-length}
-use Rattle.mark_lines.specs.MarkLines.{brokenWord, shortWord, validWord}
+use Rattle.texts.proofs.Pieces.{field-64}
 use Rattle.mark_lines.proofs.Lines.{broken-line, short-line, valid-line, refused-line}
 use borrow.Author.Needs.{needs}
 use Rattle.mark_lines.proofs.mark_line.Statement.{statement}
@@ -74,7 +73,7 @@ returns : tie.Need-returns
 returns c =
     let args· = c .before .before .before .before .before .before .before .args in
     let mark· = c .before .before .before .before .before .mark in
-    broken-line (args· .out .now) (args· .mark) _ _ _ _ (mark· .given .0 .0) (mark· .given .1) (omega (arith, line-of-length brokenWord (mark· .given .0 .0 .step) (c .before .before .before .reason-number .result) (omega arith) (omega arith))) (c .put-line .ensures) (omega arith) (omega arith)
+    broken-line (args· .out .now) (args· .mark) _ _ _ _ (mark· .given .0 .0) (mark· .given .1) (omega arith) (c .put-line .ensures .1) (omega arith) (omega arith)
 
 returns-2 : tie.Need-returns-2
 returns-2 c =
@@ -87,7 +86,7 @@ returns-3 : tie.Need-returns-3
 returns-3 c =
     let args· = c .before .before .before .before .before .before .args in
     let mark3· = c .before .before .before .before .mark3 in
-    valid-line (args· .out .now) (args· .mark) _ _ (mark3· .given .0 .0) (mark3· .given .1) (omega (arith, line-of-length validWord (mark3· .given .0 .0 .cost) (mark3· .given .0 .0 .excess) (omega arith) (omega arith))) (c .put-line2 .ensures)
+    valid-line (args· .out .now) (args· .mark) _ _ (mark3· .given .0 .0) (mark3· .given .1) (omega arith) (c .put-line2 .ensures .1)
 
 returns-4 : tie.Need-returns-4
 returns-4 c =

@@ -35,7 +35,8 @@ returns c =
     let put-text· = c .before .before .before .before .before .before .before .before .before .before .before .before .before .before .put-text in
     let put-field· = c .before .before .before .before .before .before .before .before .before .before .put-field in
     let put-field2· = c .before .before .before .before .before .before .put-field2 in
-    line-of (args· .out .now) _ _ _ _ (args· .at) _ _ _ _ (args· .first) (args· .second) (args· .word .now) (put-text· .ensures) (put-field· .ensures) (put-field2· .ensures) (c .before .before .put-feed .ensures)
+    let put = line-of (args· .out .now) _ _ _ _ (args· .at) _ _ _ _ (args· .first) (args· .second) (args· .word .now) (put-text· .ensures) (put-field· .ensures) (put-field2· .ensures) (c .before .before .put-feed .ensures) in
+    (omega (arith, field-64 (args· .first) (omega arith), field-64 (args· .second) (omega arith)), put)
 
 pub put-line-spec : {M : Type 1} → statement M
 put-line-spec =

@@ -3,7 +3,7 @@
 use native.Mathlib.Omega.{arith}
 use Rattle.network.specs.Refusals.{ruleNumber}
 use Rattle.texts.specs.Texts.{refusedWord, refusedLine}
-use Rattle.texts.proofs.Pieces.{line-of-length, front-line}
+use Rattle.texts.proofs.Pieces.{front-line}
 use borrow.Author.Needs.{needs}
 use Rattle.texts.proofs.refused_line.Statement.{statement}
 use Rattle.texts.proofs.refused_line.Tie as tie
@@ -28,7 +28,7 @@ returns : tie.Need-returns
 unfolding refusedLine
 returns c =
     let args· = c .before .before .before .before .args in
-    front-line (args· .out .now) _ _ _ _ (ruleNumber (args· .refused .rule)) (args· .refused .place) refusedWord (omega (arith, line-of-length refusedWord (c .before .before .before .number .result) (args· .refused .place) (omega arith) (omega arith))) (c .put-line .ensures) (omega arith) (omega arith)
+    front-line (args· .out .now) _ _ _ _ (ruleNumber (args· .refused .rule)) (args· .refused .place) refusedWord (omega arith) (c .put-line .ensures .1) (omega arith) (omega arith)
 
 pub refused-line-spec : {M : Type 1} → statement M
 refused-line-spec =

@@ -1,9 +1,9 @@
--- `enumeration::add_along` is safe and ends: the loop counts up to its end.
+-- `surveys::add_along` is safe and ends: the loop counts up to its end.
 -- Assumes nothing.
 use Prim.Native.Nat.{_-_}
 use borrow.Author.Needs.{needs}
-use Rattle.enumeration.proofs.add_along.Statement.{statement}
-use Rattle.enumeration.proofs.add_along.Tie as tie
+use Rattle.surveys.proofs.add_along.Statement.{statement}
+use Rattle.surveys.proofs.add_along.Tie as tie
 
 abbrev Inv-loop : tie.InvT-loop
 Inv-loop via x load sums₀ y₀ counter₀ sums y counter = Unit {0}

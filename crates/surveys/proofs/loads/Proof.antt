@@ -1,9 +1,9 @@
--- `enumeration::loads` is safe and ends: the loop counts up to its end.
+-- `surveys::loads` is safe and ends: the loop counts up to its end.
 -- Assumes nothing.
 use Prim.Native.Nat.{_-_}
 use borrow.Author.Needs.{needs}
-use Rattle.enumeration.proofs.loads.Statement.{statement}
-use Rattle.enumeration.proofs.loads.Tie as tie
+use Rattle.surveys.proofs.loads.Statement.{statement}
+use Rattle.surveys.proofs.loads.Tie as tie
 
 abbrev Inv-loop : tie.InvT-loop
 Inv-loop via load sums₀ x₀ x-end sums x = Unit {0}

@@ -1,15 +1,15 @@
--- `enumeration::links_in` is safe and ends: the loop counts up to its end.
+-- `surveys::flood_from` is safe and ends: the loop counts up to its end.
 -- Assumes nothing.
 use Prim.Native.Nat.{_-_}
 use borrow.Author.Needs.{needs}
-use Rattle.enumeration.proofs.links_in.Statement.{statement}
-use Rattle.enumeration.proofs.links_in.Tie as tie
+use Rattle.surveys.proofs.flood_from.Statement.{statement}
+use Rattle.surveys.proofs.flood_from.Tie as tie
 
 abbrev Inv-loop : tie.InvT-loop
-Inv-loop from on links part n₀ k₀ n k = Unit {0}
+Inv-loop net low high barred on flags from to via₀ x₀ x-end via x = Unit {0}
 
 abbrev μ-loop : tie.MeasureT-loop
-μ-loop from on links part n₀ k₀ n k = links - k
+μ-loop net low high barred on flags from to via₀ x₀ x-end via x = x-end - x
 
 loop-holds : tie.Need-loop-holds Inv-loop μ-loop
 loop-holds c = tt
@@ -20,14 +20,14 @@ at-requires c κs = search needs
 at-requires-2 : tie.Need-at-requires-2 Inv-loop μ-loop
 at-requires-2 c κs = search needs
 
-at-requires-3 : tie.Need-at-requires-3 Inv-loop μ-loop
-at-requires-3 c κs = search needs
-
 add-requires : tie.Need-add-requires Inv-loop μ-loop
 add-requires c κs = search needs
 
-add-k : tie.Need-add-k Inv-loop μ-loop
-add-k c = search needs
+put-requires : tie.Need-put-requires Inv-loop μ-loop
+put-requires c κs = search needs
+
+add-x : tie.Need-add-x Inv-loop μ-loop
+add-x c = search needs
 
 loop-less : tie.Need-loop-less Inv-loop μ-loop
 loop-less c = search needs
@@ -35,11 +35,14 @@ loop-less c = search needs
 loop-again : tie.Need-loop-again Inv-loop μ-loop
 loop-again c = tt
 
+flood-requires : tie.Need-flood-requires Inv-loop μ-loop
+flood-requires c κs = search needs
+
 returns : tie.Need-returns Inv-loop μ-loop
 returns c = search needs
 
-pub links-in-spec : {M : Type 1} → statement M
-links-in-spec =
+pub flood-from-spec : {M : Type 1} → statement M
+flood-from-spec =
     tie.close
     (tie.spec
     Inv-loop
@@ -47,9 +50,10 @@ links-in-spec =
     loop-holds
     at-requires
     at-requires-2
-    at-requires-3
     add-requires
-    add-k
+    put-requires
+    add-x
     loop-less
     loop-again
+    flood-requires
     returns)

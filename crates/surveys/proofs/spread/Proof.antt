@@ -1,15 +1,15 @@
--- `enumeration::links_where` is safe and ends: the loop counts up to its end.
+-- `surveys::spread` is safe and ends: the loop counts up to its end.
 -- Assumes nothing.
 use Prim.Native.Nat.{_-_}
 use borrow.Author.Needs.{needs}
-use Rattle.enumeration.proofs.links_where.Statement.{statement}
-use Rattle.enumeration.proofs.links_where.Tie as tie
+use Rattle.surveys.proofs.spread.Statement.{statement}
+use Rattle.surveys.proofs.spread.Tie as tie
 
 abbrev Inv-loop : tie.InvT-loop
-Inv-loop which marks from to form on₀ k₀ k-end on k = Unit {0}
+Inv-loop from to on links via₀ changed₀ k₀ via changed k = Unit {0}
 
 abbrev μ-loop : tie.MeasureT-loop
-μ-loop which marks from to form on₀ k₀ k-end on k = k-end - k
+μ-loop from to on links via₀ changed₀ k₀ via changed k = links - k
 
 loop-holds : tie.Need-loop-holds Inv-loop μ-loop
 loop-holds c = tt
@@ -23,17 +23,11 @@ at-requires-2 c κs = search needs
 at-requires-3 : tie.Need-at-requires-3 Inv-loop μ-loop
 at-requires-3 c κs = search needs
 
-at-requires-4 : tie.Need-at-requires-4 Inv-loop μ-loop
-at-requires-4 c κs = search needs
+cross-requires : tie.Need-cross-requires Inv-loop μ-loop
+cross-requires c κs = search needs
 
-at-requires-5 : tie.Need-at-requires-5 Inv-loop μ-loop
-at-requires-5 c κs = search needs
-
-is-asked-requires : tie.Need-is-asked-requires Inv-loop μ-loop
-is-asked-requires c κs = search needs
-
-put-requires : tie.Need-put-requires Inv-loop μ-loop
-put-requires c κs = search needs
+cross-requires-2 : tie.Need-cross-requires-2 Inv-loop μ-loop
+cross-requires-2 c κs = search needs
 
 add-k : tie.Need-add-k Inv-loop μ-loop
 add-k c = search needs
@@ -47,8 +41,8 @@ loop-again c = tt
 returns : tie.Need-returns Inv-loop μ-loop
 returns c = search needs
 
-pub links-where-spec : {M : Type 1} → statement M
-links-where-spec =
+pub spread-spec : {M : Type 1} → statement M
+spread-spec =
     tie.close
     (tie.spec
     Inv-loop
@@ -57,10 +51,8 @@ links-where-spec =
     at-requires
     at-requires-2
     at-requires-3
-    at-requires-4
-    at-requires-5
-    is-asked-requires
-    put-requires
+    cross-requires
+    cross-requires-2
     add-k
     loop-less
     loop-again

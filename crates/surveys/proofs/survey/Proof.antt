@@ -1,9 +1,9 @@
--- `enumeration::survey` is safe and ends: the loop counts up to its end.
+-- `surveys::survey` is safe and ends: the loop counts up to its end.
 -- Assumes nothing.
 use Prim.Native.Nat.{_-_}
 use borrow.Author.Needs.{needs}
-use Rattle.enumeration.proofs.survey.Statement.{statement}
-use Rattle.enumeration.proofs.survey.Tie as tie
+use Rattle.surveys.proofs.survey.Statement.{statement}
+use Rattle.surveys.proofs.survey.Tie as tie
 
 abbrev Inv-loop : tie.InvT-loop
 Inv-loop net on flags from to seen₀ places₀ x₀ x-end seen places x = Unit {0}

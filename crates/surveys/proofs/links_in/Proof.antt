@@ -1,15 +1,15 @@
--- `enumeration::dark_of` is safe and ends: the loop counts up to its end.
+-- `surveys::links_in` is safe and ends: the loop counts up to its end.
 -- Assumes nothing.
 use Prim.Native.Nat.{_-_}
 use borrow.Author.Needs.{needs}
-use Rattle.enumeration.proofs.dark_of.Statement.{statement}
-use Rattle.enumeration.proofs.dark_of.Tie as tie
+use Rattle.surveys.proofs.links_in.Statement.{statement}
+use Rattle.surveys.proofs.links_in.Tie as tie
 
 abbrev Inv-loop : tie.InvT-loop
-Inv-loop elements restorable live dark₀ x₀ dark x = Unit {0}
+Inv-loop from on links part n₀ k₀ n k = Unit {0}
 
 abbrev μ-loop : tie.MeasureT-loop
-μ-loop elements restorable live dark₀ x₀ dark x = elements - x
+μ-loop from on links part n₀ k₀ n k = links - k
 
 loop-holds : tie.Need-loop-holds Inv-loop μ-loop
 loop-holds c = tt
@@ -20,11 +20,14 @@ at-requires c κs = search needs
 at-requires-2 : tie.Need-at-requires-2 Inv-loop μ-loop
 at-requires-2 c κs = search needs
 
-put-requires : tie.Need-put-requires Inv-loop μ-loop
-put-requires c κs = search needs
+at-requires-3 : tie.Need-at-requires-3 Inv-loop μ-loop
+at-requires-3 c κs = search needs
 
-add-x : tie.Need-add-x Inv-loop μ-loop
-add-x c = search needs
+add-requires : tie.Need-add-requires Inv-loop μ-loop
+add-requires c κs = search needs
+
+add-k : tie.Need-add-k Inv-loop μ-loop
+add-k c = search needs
 
 loop-less : tie.Need-loop-less Inv-loop μ-loop
 loop-less c = search needs
@@ -35,8 +38,8 @@ loop-again c = tt
 returns : tie.Need-returns Inv-loop μ-loop
 returns c = search needs
 
-pub dark-of-spec : {M : Type 1} → statement M
-dark-of-spec =
+pub links-in-spec : {M : Type 1} → statement M
+links-in-spec =
     tie.close
     (tie.spec
     Inv-loop
@@ -44,8 +47,9 @@ dark-of-spec =
     loop-holds
     at-requires
     at-requires-2
-    put-requires
-    add-x
+    at-requires-3
+    add-requires
+    add-k
     loop-less
     loop-again
     returns)

@@ -1,18 +1,21 @@
--- `enumeration::flood_from` is safe and ends: the loop counts up to its end.
+-- `surveys::turned` is safe and ends: the loop counts up to its end.
 -- Assumes nothing.
 use Prim.Native.Nat.{_-_}
 use borrow.Author.Needs.{needs}
-use Rattle.enumeration.proofs.flood_from.Statement.{statement}
-use Rattle.enumeration.proofs.flood_from.Tie as tie
+use Rattle.surveys.proofs.turned.Statement.{statement}
+use Rattle.surveys.proofs.turned.Tie as tie
 
 abbrev Inv-loop : tie.InvT-loop
-Inv-loop net low high barred on flags from to via₀ x₀ x-end via x = Unit {0}
+Inv-loop switches count set states₀ i₀ states i = Unit {0}
 
 abbrev μ-loop : tie.MeasureT-loop
-μ-loop net low high barred on flags from to via₀ x₀ x-end via x = x-end - x
+μ-loop switches count set states₀ i₀ states i = count - i
 
 loop-holds : tie.Need-loop-holds Inv-loop μ-loop
 loop-holds c = tt
+
+has-requires : tie.Need-has-requires Inv-loop μ-loop
+has-requires c κs = search needs
 
 at-requires : tie.Need-at-requires Inv-loop μ-loop
 at-requires c κs = search needs
@@ -20,14 +23,14 @@ at-requires c κs = search needs
 at-requires-2 : tie.Need-at-requires-2 Inv-loop μ-loop
 at-requires-2 c κs = search needs
 
-add-requires : tie.Need-add-requires Inv-loop μ-loop
-add-requires c κs = search needs
-
 put-requires : tie.Need-put-requires Inv-loop μ-loop
 put-requires c κs = search needs
 
-add-x : tie.Need-add-x Inv-loop μ-loop
-add-x c = search needs
+put-requires-2 : tie.Need-put-requires-2 Inv-loop μ-loop
+put-requires-2 c κs = search needs
+
+add-i : tie.Need-add-i Inv-loop μ-loop
+add-i c = search needs
 
 loop-less : tie.Need-loop-less Inv-loop μ-loop
 loop-less c = search needs
@@ -35,25 +38,22 @@ loop-less c = search needs
 loop-again : tie.Need-loop-again Inv-loop μ-loop
 loop-again c = tt
 
-flood-requires : tie.Need-flood-requires Inv-loop μ-loop
-flood-requires c κs = search needs
-
 returns : tie.Need-returns Inv-loop μ-loop
 returns c = search needs
 
-pub flood-from-spec : {M : Type 1} → statement M
-flood-from-spec =
+pub turned-spec : {M : Type 1} → statement M
+turned-spec =
     tie.close
     (tie.spec
     Inv-loop
     μ-loop
     loop-holds
+    has-requires
     at-requires
     at-requires-2
-    add-requires
     put-requires
-    add-x
+    put-requires-2
+    add-i
     loop-less
     loop-again
-    flood-requires
     returns)

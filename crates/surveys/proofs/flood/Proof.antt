@@ -1,9 +1,9 @@
--- `enumeration::flood` is safe and ends: the loop counts up to its end.
+-- `surveys::flood` is safe and ends: the loop counts up to its end.
 -- Assumes nothing.
 use Prim.Native.Nat.{_-_}
 use borrow.Author.Needs.{needs}
-use Rattle.enumeration.proofs.flood.Statement.{statement}
-use Rattle.enumeration.proofs.flood.Tie as tie
+use Rattle.surveys.proofs.flood.Statement.{statement}
+use Rattle.surveys.proofs.flood.Tie as tie
 
 abbrev Inv-loop : tie.InvT-loop
 Inv-loop from to on links via₀ counter₀ via counter = Unit {0}
