@@ -1,6 +1,6 @@
 -- The turns of `all_within`: no walk so far has found an element above its capacity, and the first that does settles the answer.
 -- Assumes nothing.
-use Prim.Native.Nat.{ℕ, _+_, _*_, _<_, _≤_}
+use Prim.Native.Nat.{ℕ, _+_, _*_, _<_, _≤_, _^_}
 use mathlib.Core.Path.{_≡_, refl, sym, ap}
 use mathlib.Core.Bool.{true, false, not}
 use mathlib.Core.List.{List}
@@ -9,19 +9,18 @@ use borrow.Author.Tests.{eq-eqb, lt-ltb, le-ltb}
 use native.Mathlib.Omega.{arith}
 use Rattle.feeding.specs.Networks.{at}
 use Rattle.feeding.specs.Parts.{Config}
-use Rattle.feeding.specs.Loads.{elementOver}
+use Rattle.feeding.specs.Loads.{elementLoad, elementOver}
 use Rattle.feeding.proofs.Below.{orElse}
 use Rattle.feeding.proofs.Lows.{leastTo-le}
 use Rattle.loads.specs.Walks.{walkGrid, elementCarried, overPlace}
 use Rattle.loads.proofs.Lending.{element-over-in}
 use Rattle.loads.proofs.Sources.{placeTo, place-on, place-all}
-use Rattle.capacity.specs.Within.{withinAt}
-use Rattle.capacity.specs.declared.Within.{Within}
+use Rattle.capacity.specs.Within.{overloaded, withinAt}
 use Rattle.capacity.proofs.Turns.{stopped-over, fitting-over}
 
 module _ (E K : ℕ) (far load capacity : List ℕ) (c : Config) (sound : List ℕ) where
   -- the walk from s fits
-  pub kept-on : (s : ℕ) (r : Within) → at sound s ≡ 1 → r ≡ withinAt (walkGrid E K far load capacity) c (2 * E) s K → r .fits ≡ true
+  pub kept-on : (s r : ℕ) → at sound s ≡ 1 → r ≡ withinAt (walkGrid E K far load capacity) c (2 * E) s K → (r ≡ overloaded → ⊥)
       → E ≡ placeTo E K far load capacity c sound s → E ≡ placeTo E K far load capacity c sound (s + 1)
   unfolding walkGrid
   kept-on s r h q f p = place-on E K far load capacity c sound s E E (elementCarried (walkGrid E K far load capacity) c (2 * E) s K) h refl p
@@ -46,8 +45,9 @@ module _ (E K : ℕ) (far load capacity : List ℕ) (c : Config) (sound : List �
       omega (arith, leastTo-le E E f s k, here)
 
   -- the walk from s stops
-  pub kept-not : (s : ℕ) (r : Within) → s < E → at sound s ≡ 1 → r ≡ withinAt (walkGrid E K far load capacity) c (2 * E) s K → r .fits ≡ false
+  pub kept-not : (s r : ℕ) → s < E → at sound s ≡ 1 → elementLoad (walkGrid E K far load capacity) c (2 * E) s K < 2 ^ 63
+      → r ≡ withinAt (walkGrid E K far load capacity) c (2 * E) s K → r ≡ overloaded
       → false ≡ not (ltb (overPlace (walkGrid E K far load capacity) c sound) E)
   unfolding walkGrid
-  kept-not s r k h q f = sym (ap not (lt-ltb (overPlace (walkGrid E K far load capacity) c sound) E
-      (omega (arith, over-at s k h, stopped-over (walkGrid E K far load capacity) c (2 * E) s K r q f))))
+  kept-not s r k h small q f = sym (ap not (lt-ltb (overPlace (walkGrid E K far load capacity) c sound) E
+      (omega (arith, over-at s k h, stopped-over (walkGrid E K far load capacity) c (2 * E) s K r small q f))))

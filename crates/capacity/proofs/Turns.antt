@@ -1,8 +1,8 @@
 -- The turns of `element_within` and `link_within`: the walk of `loads` in which nothing above its capacity has been found so far.
 -- Assumes nothing.
-use Prim.Native.Nat.{ℕ, zero, suc, _+_, _*_, _/_, _%_, _≤_, _<_}
+use Prim.Native.Nat.{ℕ, zero, suc, _+_, _*_, _/_, _%_, _≤_, _<_, _^_}
 use mathlib.Core.Path.{_≡_, refl, sym, ap, _∙_}
-use mathlib.Core.Bool.{Bool, true, false, not, _||_, or-true, false≢true}
+use mathlib.Core.Bool.{Bool, true, false, not, _||_, or-true}
 use mathlib.Core.List.{List}
 use lib.Dec.{eqb, leb, ltb}
 use borrow.Author.Tests.{eqb-true, eqb-false, eq-eqb, ne-eqb, lt-ltb, le-ltb, ltb-true, ltb-false, le-leb, lt-leb, leb-true, leb-false}
@@ -18,51 +18,42 @@ use Rattle.loads.specs.declared.Carried.{Carried}
 use Rattle.loads.proofs.Rounds.{Walked, lower-within, lower-above, load-none, load-more, over-more}
 use Rattle.loads.proofs.Lending.{element-load-in, element-over-in, link-load-in, link-over-in, far-end}
 use Rattle.loads.proofs.Lending.{turn-none, turn-done, turn-below, turn-near, turn-on, turn-room}
-use Rattle.capacity.specs.Within.{withinOr, loadWithin, withinAt, linkWithin}
-use Rattle.capacity.specs.declared.Within.{Within}
+use Rattle.capacity.specs.Within.{overloaded, withinOr, loadWithin, withinAt, linkWithin}
 
 -- ---- one element
 
-pub within : (x most : ℕ) → x ≤ most → record { load = x; fits = true } ≡ loadWithin x most
+pub within : (x most : ℕ) → x ≤ most → x ≡ loadWithin x most
 unfolding loadWithin
 within x most h = rw (le-leb x most h, loadWithin)
 
-pub above : (x most : ℕ) → most < x → record { load = 0; fits = false } ≡ loadWithin x most
+pub above : (x most : ℕ) → most < x → overloaded ≡ loadWithin x most
 unfolding loadWithin
 above x most h = rw (lt-leb x most h, loadWithin)
 
--- ---- the test of an answer
-
-pub stops : (b : Bool) → not b ≡ true → b ≡ false
-stops true h = absurd (false≢true h)
-stops false h = refl
-
-pub goes-on : (b : Bool) → not b ≡ false → b ≡ true
-goes-on true h = refl
-goes-on false h = absurd (false≢true (sym h))
-
 -- ---- by whether something on the way is above its capacity
 
-fits-not : (b : Bool) (x : ℕ) → withinOr b x .fits ≡ false → b ≡ true
-fits-not true x h = refl
-fits-not false x h = absurd (false≢true (sym h))
+-- no load is as high as the answer that says so
+over-so : (b : Bool) (x : ℕ) → x < 2 ^ 63 → withinOr b x ≡ overloaded → b ≡ true
+over-so true x k h = refl
+over-so false x k h = absurd (omega arith)
 
-fits-load-is : (b : Bool) (x : ℕ) → withinOr b x .fits ≡ true → withinOr b x .load ≡ x
-fits-load-is true x h = absurd (false≢true h)
-fits-load-is false x h = refl
-
-fits-so : (b : Bool) (x : ℕ) → withinOr b x .fits ≡ true → b ≡ false
-fits-so true x h = absurd (false≢true h)
+fits-so : (b : Bool) (x : ℕ) → (withinOr b x ≡ overloaded → ⊥) → b ≡ false
+fits-so true x h = absurd (h refl)
 fits-so false x h = refl
 
--- what a walk's answer says of the lowest element above its capacity
-pub stopped-over : (g : Grid) (c : Config) (d e via : ℕ) (r : Within) → r ≡ withinAt g c d e via → r .fits ≡ false → elementOver g c d e via < g .E
-unfolding withinAt
-stopped-over g c d e via r q f = ltb-true _ _ (fits-not _ _ (sym (ap (λ (x : Within). x .fits) q) ∙ f))
+fits-load-is : (b : Bool) (x : ℕ) → (withinOr b x ≡ overloaded → ⊥) → withinOr b x ≡ x
+fits-load-is true x h = absurd (h refl)
+fits-load-is false x h = refl
 
-pub fitting-over : (g : Grid) (c : Config) (d e via : ℕ) (r : Within) → r ≡ withinAt g c d e via → r .fits ≡ true → g .E ≤ elementOver g c d e via
+-- what a walk's answer says of the lowest element above its capacity
+pub stopped-over : (g : Grid) (c : Config) (d e via r : ℕ) → elementLoad g c d e via < 2 ^ 63 → r ≡ withinAt g c d e via → r ≡ overloaded
+    → elementOver g c d e via < g .E
 unfolding withinAt
-fitting-over g c d e via r q f = ltb-false _ _ (fits-so _ _ (sym (ap (λ (x : Within). x .fits) q) ∙ f))
+stopped-over g c d e via r small q f = ltb-true _ _ (over-so _ _ small (sym q ∙ f))
+
+pub fitting-over : (g : Grid) (c : Config) (d e via r : ℕ) → r ≡ withinAt g c d e via → (r ≡ overloaded → ⊥) → g .E ≤ elementOver g c d e via
+unfolding withinAt
+fitting-over g c d e via r q f = ltb-false _ _ (fits-so _ _ (λ h. f (q ∙ h)))
 
 -- x is the load, and nothing beyond e is above its capacity
 end-within : (g : Grid) (c : Config) (d e via x most : ℕ) → e < g .E
@@ -150,7 +141,7 @@ module _ {head next far closed load capacity : List ℕ} {E K : ℕ} (lent : Len
       (turn-done head next far closed load capacity E K lent d e via sum E j w depth _ k z refl)
 
   module _ (sum j : ℕ) (w : Walked (walkGrid E K far load capacity) (closedIn closed) d e via sum E j) (k : j < 192)
-      (r : Within) (h : at closed (j / 2) ≡ 1) (n : j / 2 ≡ via → ⊥)
+      (r : ℕ) (h : at closed (j / 2) ≡ 1) (n : j / 2 ≡ via → ⊥)
       (q : r ≡ linkWithin (walkGrid E K far load capacity) (closedIn closed) d (j / 2) (nearAt far j)) where
     near : nearAt far j ≡ e
     near = turn-near head next far closed load capacity E K lent d e via sum E j w k
@@ -159,32 +150,31 @@ module _ {head next far closed load capacity : List ℕ} {E K : ℕ} (lent : Len
     below = turn-below head next far closed load capacity E K lent d e via sum E j w k
 
     -- the link's walk has stopped, and so does this one
-    pub stopped : (depth : ℕ) → suc d ≡ depth → r .fits ≡ false
-        → r ≡ withinAt (walkGrid E K far load capacity) (closedIn closed) depth e via
+    pub stopped : (depth : ℕ) → suc d ≡ depth → elementLoad (walkGrid E K far load capacity) (closedIn closed) depth e via < 2 ^ 63
+        → r ≡ overloaded → r ≡ withinAt (walkGrid E K far load capacity) (closedIn closed) depth e via
     unfolding walkGrid withinAt linkWithin
-    stopped depth z f =
+    stopped depth z small f =
         let g : Grid = walkGrid E K far load capacity in
         let c : Config = closedIn closed in
-        let found : ltb (linkOver g c d (j / 2) (nearAt far j)) E ≡ true =
-        fits-not _ _ (sym (ap (λ (x : Within). x .fits) q) ∙ f) in
+        let room = turn-room head next far closed load capacity E K lent d e via sum E j w k depth z h n in
+        let found : ltb (linkOver g c d (j / 2) (nearAt far j)) E ≡ true = over-so _ _ (omega (arith, small, room)) (sym q ∙ f) in
         let lead = end-leads E K far closed load capacity j e via near h n in
         let low : elementOver g c (suc d) e via < E =
         omega (arith, over-on g c d e via (j / 2) (omega (arith, below)) lead, ltb-true _ E found, ap (linkOver g c d (j / 2)) near) in
-        rw (← z, q, found, lt-ltb _ E low)
+        rw (← z, f, lt-ltb _ E low)
 
-    fits-load : r .fits ≡ true → r .load ≡ linkLoad (walkGrid E K far load capacity) (closedIn closed) d (j / 2) (nearAt far j)
+    fits-load : (r ≡ overloaded → ⊥) → r ≡ linkLoad (walkGrid E K far load capacity) (closedIn closed) d (j / 2) (nearAt far j)
     unfolding linkWithin
     fits-load f =
         let g : Grid = walkGrid E K far load capacity in
-        ap (λ (x : Within). x .load) q
-        ∙ fits-load-is (ltb (linkOver g (closedIn closed) d (j / 2) (nearAt far j)) (g .E)) _ (sym (ap (λ (x : Within). x .fits) q) ∙ f)
+        q ∙ fits-load-is (ltb (linkOver g (closedIn closed) d (j / 2) (nearAt far j)) (g .E)) _ (λ x. f (q ∙ x))
 
-    fits-over : r .fits ≡ true → E ≤ linkOver (walkGrid E K far load capacity) (closedIn closed) d (j / 2) (nearAt far j)
+    fits-over : (r ≡ overloaded → ⊥) → E ≤ linkOver (walkGrid E K far load capacity) (closedIn closed) d (j / 2) (nearAt far j)
     unfolding walkGrid linkWithin
-    fits-over f = ltb-false _ E (fits-so _ _ (sym (ap (λ (x : Within). x .fits) q) ∙ f))
+    fits-over f = ltb-false _ E (fits-so _ _ (λ x. f (q ∙ x)))
 
     -- the link's walk has fitted, and its load is added
-    pub went-on : r .fits ≡ true → (sum′ : ℕ) → sum′ ≡ sum + r .load
+    pub went-on : (r ≡ overloaded → ⊥) → (sum′ : ℕ) → sum′ ≡ sum + r
         → Walked (walkGrid E K far load capacity) (closedIn closed) d e via sum′ E (at next j)
     went-on f sum′ s =
         let carried : Carried = linkCarried (walkGrid E K far load capacity) (closedIn closed) d (j / 2) (nearAt far j) in
@@ -194,14 +184,14 @@ module _ {head next far closed load capacity : List ℕ} {E K : ℕ} (lent : Len
         (omega (arith, s, fits-load f, load-in)) (omega (arith, fits-over f, over-in))
 
     -- no partial sum is above the whole
-    pub went-room : r .fits ≡ true → (depth : ℕ) → suc d ≡ depth
-        → sum + r .load ≤ elementLoad (walkGrid E K far load capacity) (closedIn closed) depth e via
+    pub went-room : (r ≡ overloaded → ⊥) → (depth : ℕ) → suc d ≡ depth
+        → sum + r ≤ elementLoad (walkGrid E K far load capacity) (closedIn closed) depth e via
     went-room f depth z = omega (arith, fits-load f, turn-room head next far closed load capacity E K lent d e via sum E j w k depth z h n)
 
 -- ---- the link's turns
 
 pub link-within-none : (E K : ℕ) (fars load capacity : List ℕ) (c : Config) (depth l e : ℕ) → depth ≡ 0
-    → record { load = 0; fits = true } ≡ linkWithin (walkGrid E K fars load capacity) c depth l e
+    → 0 ≡ linkWithin (walkGrid E K fars load capacity) c depth l e
 unfolding walkGrid linkWithin linkLoad linkOver
 link-within-none E K fars load capacity c depth l e z = rw (z, le-ltb E E (omega arith))
 
@@ -210,7 +200,7 @@ unfolding linkWithin withinAt linkLoad linkOver
 link-within-more g c d l e = refl
 
 pub link-within-turn : {head next fars closed load capacity : List ℕ} {E K : ℕ} → Lent head next fars closed load capacity E K
-    → (d depth j : ℕ) (r : Within) → suc d ≡ depth → j < 2 * K
+    → (d depth j r : ℕ) → suc d ≡ depth → j < 2 * K
     → r ≡ withinAt (walkGrid E K fars load capacity) (closedIn closed) d (at fars j) (j / 2)
     → r ≡ linkWithin (walkGrid E K fars load capacity) (closedIn closed) depth (j / 2) (nearAt fars j)
 link-within-turn {fars = fars} {closed = closed} {load = load} {capacity = capacity} {E = E} {K = K} lent d depth j r z k q =

@@ -8,26 +8,20 @@ ghost use Rattle.feeding.specs.Loads.{elementLoad, linkLoad};
 ghost use Rattle.loads.specs.Walks.{Lent, walkGrid, nearAt, Carries, overPlace};
 ghost use Rattle.capacity.specs.Within.{loadWithin, withinAt, linkWithin};
 
-// A load, and whether every element that was met on the way is within its capacity; the load is 0 where one is not.
-pub struct Within {
-    pub load: u64,
-    pub fits: bool,
-}
+// The answer of a walk that meets an element above its capacity; no load is as high.
+pub const OVERLOADED: u64 = 18446744073709551615;
 
-// Whether an element of this load is within its capacity.
-fn load_within(load: u64, capacity: u32) -> Within
+// The load of an element, or OVERLOADED where it is above the capacity.
+fn load_within(load: u64, capacity: u32) -> u64
     ensures { λ r. ⌜ r ≡ loadWithin load capacity ⌝ }
 {
     if load <= capacity as u64 {
-        return Within { load, fits: true };
+        return load;
     }
-    Within {
-        load: 0,
-        fits: false,
-    }
+    OVERLOADED
 }
 
-// The load at e, come to over the link via, where every element from e onward is within its capacity.
+// The load at e, come to over the link via, or OVERLOADED where an element from e onward is above its capacity.
 pub fn element_within<'a>(
     head: &'a [u8; 64],
     next: &'a [u8; 192],
@@ -40,10 +34,10 @@ pub fn element_within<'a>(
     e: usize,
     via: usize,
     depth: usize,
-) -> Within
+) -> u64
     requires { ⌜ Lent (now head) (now next) (now far) (now closed) (now load) (now capacity) elements links ⌝ }
     requires { ⌜ (elements ≤ 64) × (e < elements) ⌝ }
-    requires { ⌜ elementLoad (walkGrid elements links (now far) (now load) (now capacity)) (closedIn (now closed)) depth e via < 2 ^ 64 ⌝ }
+    requires { ⌜ elementLoad (walkGrid elements links (now far) (now load) (now capacity)) (closedIn (now closed)) depth e via < 2 ^ 63 ⌝ }
     ensures { λ r. ⌜ r ≡ withinAt (walkGrid elements links (now (far .entry)) (now (load .entry)) (now (capacity .entry))) (closedIn (now (closed .entry))) depth e via ⌝ }
 {
     let mut sum = load[e] as u64;
@@ -67,10 +61,10 @@ pub fn element_within<'a>(
                     j,
                     depth - 1,
                 );
-                if !c.fits {
+                if c == OVERLOADED {
                     return c;
                 }
-                sum = sum + c.load;
+                sum = sum + c;
             }
         }
         j = next[j] as usize;
@@ -78,7 +72,7 @@ pub fn element_within<'a>(
     load_within(sum, capacity[e])
 }
 
-// What the link of end j carries away from that end: the load at its far element.
+// What the link of end j carries away from that end: the load at its far element, or OVERLOADED.
 pub fn link_within<'a>(
     head: &'a [u8; 64],
     next: &'a [u8; 192],
@@ -90,17 +84,14 @@ pub fn link_within<'a>(
     links: usize,
     j: usize,
     depth: usize,
-) -> Within
+) -> u64
     requires { ⌜ Lent (now head) (now next) (now far) (now closed) (now load) (now capacity) elements links ⌝ }
     requires { ⌜ (elements ≤ 64) × (j < 2 * links) ⌝ }
-    requires { ⌜ linkLoad (walkGrid elements links (now far) (now load) (now capacity)) (closedIn (now closed)) depth (j / 2) (nearAt (now far) j) < 2 ^ 64 ⌝ }
+    requires { ⌜ linkLoad (walkGrid elements links (now far) (now load) (now capacity)) (closedIn (now closed)) depth (j / 2) (nearAt (now far) j) < 2 ^ 63 ⌝ }
     ensures { λ r. ⌜ r ≡ linkWithin (walkGrid elements links (now (far .entry)) (now (load .entry)) (now (capacity .entry))) (closedIn (now (closed .entry))) depth (j / 2) (nearAt (now (far .entry)) j) ⌝ }
 {
     if depth == 0 {
-        return Within {
-            load: 0,
-            fits: true,
-        };
+        return 0;
     }
     let f = far[j] as usize;
     element_within(
@@ -151,7 +142,7 @@ pub fn all_within<'a>(
                 links,
                 2 * elements,
             );
-            if !c.fits {
+            if c == OVERLOADED {
                 return false;
             }
         }

@@ -177,7 +177,7 @@ module _ (E K : ℕ) (load capacity flags from to : List ℕ) (formed : Formed (
         (λ s. orElse E (sound? (gridOf E K load capacity flags from to) s) (elementOver (gridOf E K load capacity flags from to) c (2 * E) s K))
         (λ s k. rw (isIn s k, element-over-is c (2 * E) s K k))
 
-    total-fits : ((e : ℕ) → e < E → at load e < 2 ^ 32) → totalLoad (gridOf E K load capacity flags from to) < 2 ^ 64
+    total-fits : ((e : ℕ) → e < E → at load e < 2 ^ 32) → totalLoad (gridOf E K load capacity flags from to) < 2 ^ 63
     unfolding totalLoad gridOf
     total-fits small = omega (arith, sumTo-below (2 ^ 32) (at load) E (λ e k. omega (arith, small e k)))
 

@@ -67,6 +67,6 @@ module _ (E K : ℕ) (far load capacity : List ℕ) (c : Config) (sound : List �
 
   -- what each marked element's walk asks
   pub carries-at : Carries (walkGrid E K far load capacity) c sound → (s : ℕ) → s < E → at sound s ≡ 1
-      → elementLoad (walkGrid E K far load capacity) c (2 * E) s K < 2 ^ 64
+      → elementLoad (walkGrid E K far load capacity) c (2 * E) s K < 2 ^ 63
   unfolding walkGrid
   carries-at h s k q = h s k q

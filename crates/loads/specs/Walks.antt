@@ -62,9 +62,9 @@ elementCarried g c d e via = record { load = elementLoad g c d e via; over = ele
 unfoldable pub linkCarried : Grid → Config → (depth l e : ℕ) → Carried
 linkCarried g c d l e = record { load = linkLoad g c d l e; over = linkOver g c d l e }
 
--- the load at each member of the set is below 2 ^ 64
+-- the load at each member of the set is below 2 ^ 63
 abbrev pub Carries : Grid → Config → (sound : List ℕ) → Type 0
-Carries g c sound = (s : ℕ) → s < g .E → at sound s ≡ 1 → elementLoad g c (2 * g .E) s (g .K) < 2 ^ 64
+Carries g c sound = (s : ℕ) → s < g .E → at sound s ≡ 1 → elementLoad g c (2 * g .E) s (g .K) < 2 ^ 63
 
 -- the lowest overloaded element over the walks from the members of the set
 unfoldable pub overPlace : Grid → Config → (sound : List ℕ) → ℕ

@@ -73,7 +73,7 @@ module _ {load capacity flags from to head next far closed : List ℕ} {E K : �
       (lent E K load capacity flags from to (ok .formed) (ok .elements-fit) (ok .links-fit) (ownEnds (at from) (at to) K) refl
       closed (ok .closed-long) (ok .load-long) (ok .capacity-long))
 
-  -- where every part is a tree, the load at each element is below 2 ^ 64
+  -- where every part is a tree, the load at each element is below 2 ^ 63
   pub trees-carried : (sound : List ℕ) → ltb (treePlace grid config) E ≡ false → Carries (walkGrid E K far load capacity) config sound
   unfolding gridOf
   trees-carried sound trees = rw (ok .far-is)

@@ -8,7 +8,7 @@ use Rattle.feeding.specs.Parts.{closedIn}
 use Rattle.loads.specs.Walks.{walkGrid, nearAt}
 use Rattle.loads.proofs.Rounds.{Walked}
 use Rattle.loads.proofs.Lending.{turn-start, turn-below, turn-later, turn-open, turn-via, turn-room, link-turn-load}
-use Rattle.capacity.proofs.Turns.{end-none, end-done, stopped, went-on, went-room, link-within-none, link-within-turn, stops, goes-on}
+use Rattle.capacity.proofs.Turns.{end-none, end-done, stopped, went-on, went-room, link-within-none, link-within-turn}
 use Rattle.capacity.proofs.Turns.{load-read, head-read, next-read}
 use borrow.Fn.Kinds.{In}
 use borrow.Fn.PlainCycle.{Measures, is, falls, and}
@@ -200,12 +200,12 @@ element-within-returns-2 : (t : ℕ) → element-within-lts.Need-returns-2 (
   link-within.Post,
 ) (element-within-at t) element-within.Post element-within-Inv-loop element-within-μ-loop
 element-within-returns-2 t c =
-    let a = c .before .before .before .before .before .before .before .before .before .before .before .args in
-    let p = c .before .before .before .before .before .before .before .before .before .before .before .pre .1 in
-    let n = c .before .before .before .before .before .before .before .loop in
+    let a = c .before .before .before .before .before .before .before .before .before .before .args in
+    let p = c .before .before .before .before .before .before .before .before .before .before .pre .1 in
+    let n = c .before .before .before .before .before .before .loop in
     stopped (p .0) (a .depth - 1) (a .e) (a .via) (p .1 .0 .1) (n .sum) (n .j) (n .inv) (omega arith)
-    (c .before .before .link-within .result) (omega arith) (omega arith) (c .before .before .link-within .ensures)
-    (a .depth) (omega arith) (stops _ (c .if4 .taken))
+    (c .before .link-within .result) (omega arith) (omega arith) (c .before .link-within .ensures)
+    (a .depth) (omega arith) (p .1 .1) (omega arith)
 
 element-within-add-sum : (t : ℕ) → element-within-lts.Need-add-sum (
   load-within-reads.Asked,
@@ -214,12 +214,12 @@ element-within-add-sum : (t : ℕ) → element-within-lts.Need-add-sum (
   link-within.Post,
 ) (element-within-at t) element-within.Post element-within-Inv-loop element-within-μ-loop
 element-within-add-sum t c =
-    let a = c .before .before .before .before .before .before .before .before .before .before .before .before .args in
-    let p = c .before .before .before .before .before .before .before .before .before .before .before .before .pre .1 in
-    let n = c .before .before .before .before .before .before .before .before .loop in
+    let a = c .before .before .before .before .before .before .before .before .before .before .args in
+    let p = c .before .before .before .before .before .before .before .before .before .before .pre .1 in
+    let n = c .before .before .before .before .before .before .loop in
     let room = went-room (p .0) (a .depth - 1) (a .e) (a .via) (p .1 .0 .1) (n .sum) (n .j) (n .inv) (omega arith)
-    (c .before .before .before .link-within .result) (omega arith) (omega arith) (c .before .before .before .link-within .ensures)
-    (goes-on _ (c .before .if4 .left)) (a .depth) (omega arith) in
+    (c .before .link-within .result) (omega arith) (omega arith) (c .before .link-within .ensures)
+    (omega arith) (a .depth) (omega arith) in
     omega arith
 
 element-within-element-copy-out-j-2 : (t : ℕ) → element-within-lts.Need-element-copy-out-j-2 (
@@ -277,7 +277,7 @@ element-within-loop-again t c =
     let sum = c .before .if2 .sum in
     ⊎-elim
     (λ w. went-on (p .0) (a .depth - 1) (a .e) (a .via) (p .1 .0 .1) (n .sum) (n .j) (n .inv) (omega arith)
-    (w .2 .result) (omega arith) (omega arith) (w .2 .ensures) (goes-on _ (w .4 .left)) sum (omega arith))
+    (w .2 .result) (omega arith) (omega arith) (w .2 .ensures) (omega arith) sum (omega arith))
     (λ v. ⊎-elim
     (λ w. turn-via (a .head .now) (a .next .now) (a .far .now) (a .closed .now) (a .load .now) (a .capacity .now) (a .elements)
     (a .links) (p .0) (a .depth - 1) (a .e) (a .via) (n .sum) (a .elements) (n .j) (n .inv) (omega arith)

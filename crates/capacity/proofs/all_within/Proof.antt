@@ -6,7 +6,6 @@ use mathlib.Core.Logic.{⊎-elim}
 use native.Mathlib.Omega.{arith}
 use Rattle.feeding.specs.Parts.{closedIn}
 use Rattle.loads.proofs.Sources.{placeTo, place-none, place-off, carries-at}
-use Rattle.capacity.proofs.Turns.{stops, goes-on}
 use Rattle.capacity.proofs.Sources.{kept-on, kept-not, kept-all}
 use Rattle.capacity.proofs.all_within.Statement.{statement}
 use Rattle.capacity.proofs.all_within.Tie as tie
@@ -45,11 +44,14 @@ element-within-requires c κs =
 
 returns : tie.Need-returns Inv-loop μ-loop
 returns c =
-    let a = c .before .before .before .before .before .before .before .args in
-    let n = c .before .before .before .before .before .before .loop in
-    let r = c .before .before .element-within in
+    let a = c .before .before .before .before .before .before .args in
+    let p = c .before .before .before .before .before .before .pre in
+    let n = c .before .before .before .before .before .loop in
+    let r = c .before .element-within in
+    let small = carries-at (a .elements) (a .links) (a .far .now) (a .load .now) (a .capacity .now) (closedIn (a .closed .now)) (a .sound .now)
+    (p .1 .1) (n .s) (omega arith) (omega arith) in
     kept-not (a .elements) (a .links) (a .far .now) (a .load .now) (a .capacity .now) (closedIn (a .closed .now)) (a .sound .now)
-    (n .s) (r .result) (omega arith) (omega arith) (r .ensures) (stops _ (c .if2 .taken))
+    (n .s) (r .result) (omega arith) (omega arith) small (r .ensures) (omega arith)
 
 add-s : tie.Need-add-s Inv-loop μ-loop
 add-s c = omega arith
@@ -64,7 +66,7 @@ loop-again c =
       omega arith,
       ⊎-elim
           (λ w. kept-on (a .elements) (a .links) (a .far .now) (a .load .now) (a .capacity .now) (closedIn (a .closed .now)) (a .sound .now)
-          (n .s) (w .1 .result) (omega arith) (w .1 .ensures) (goes-on _ (w .3 .left)) (n .inv .1))
+          (n .s) (w .1 .result) (omega arith) (w .1 .ensures) (omega arith) (n .inv .1))
           (λ w. place-off (a .elements) (a .links) (a .far .now) (a .load .now) (a .capacity .now) (closedIn (a .closed .now)) (a .sound .now)
           (n .s) (a .elements) (omega arith) (n .inv .1))
           (c .if1 .came),

@@ -35,9 +35,12 @@ element-load-requires c κs =
       p .0,
       (
         omega arith,
-        carries-at (a .elements) (a .links) (a .far .now) (a .load .now) (a .capacity .now) (closedIn (a .closed .now))
-            (a .sound .now)
-            (p .1 .1) (n .s) (omega arith) (omega arith),
+        omega (
+          arith,
+          carries-at (a .elements) (a .links) (a .far .now) (a .load .now) (a .capacity .now) (closedIn (a .closed .now))
+              (a .sound .now)
+              (p .1 .1) (n .s) (omega arith) (omega arith),
+        ),
       ),
     )
 
