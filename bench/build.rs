@@ -1,8 +1,10 @@
-// Links the static library that `rt staticlib host` wrote.
+// With the feature `library`, links the static library that `rt staticlib tamchuwe` wrote into the program `bench`.
 fn main() {
-    let library = std::env::var("TAMCHUWE_LIB").expect("set TAMCHUWE_LIB to the folder of libhost.a; bench/run does");
-    println!("cargo:rustc-link-search=native={library}");
-    println!("cargo:rustc-link-lib=static=host");
-    println!("cargo:rerun-if-changed={library}/libhost.a");
     println!("cargo:rerun-if-env-changed=TAMCHUWE_LIB");
+    if std::env::var_os("CARGO_FEATURE_LIBRARY").is_none() {
+        return;
+    }
+    let library = std::env::var("TAMCHUWE_LIB").expect("set TAMCHUWE_LIB to the folder of libtamchuwe.a; bench/run does");
+    println!("cargo:rustc-link-arg-bin=bench={library}/libtamchuwe.a");
+    println!("cargo:rerun-if-changed={library}/libtamchuwe.a");
 }

@@ -3,8 +3,8 @@ use network::Element;
 use network::Link;
 use network::Network;
 use network::refusal::Refusal;
+use record_reader::record_due;
 use records::Found;
-use records::due_at;
 use records::word_at;
 use stages::Stage;
 use stages::after_last;
@@ -83,7 +83,7 @@ fn read_elements(s: &[u8], count: usize, start: usize, first: Stage) -> NetworkP
     let mut stage = first;
     let mut left = count;
     while 0 < left {
-        let found = due_at(s, at, stage, 0, 0);
+        let found = record_due(s, at, stage, 0, 0);
         match found {
             Found::Refused(refusal) => {
                 return refused_network(refusal);
@@ -122,7 +122,7 @@ fn read_links(s: &[u8], count: usize, start: usize, first: Stage, elements: Netw
     let mut stage = first;
     let mut left = count;
     while 0 < left {
-        let found = due_at(s, at, stage, e, 0);
+        let found = record_due(s, at, stage, e, 0);
         match found {
             Found::Refused(refusal) => {
                 return refused_network(refusal);
@@ -154,7 +154,7 @@ fn read_links(s: &[u8], count: usize, start: usize, first: Stage, elements: Netw
 fn end_on(s: &[u8], at: usize, stage: Stage, net: Network) -> NetworkPart
     ensures { λ r. ⌜ r ≡ networkPart (endOn (now (s .entry)) at stage net) ⌝ }
 {
-    let found = due_at(s, at, stage, 0, 0);
+    let found = record_due(s, at, stage, 0, 0);
     match found {
         Found::Refused(refusal) => refused_network(refusal),
         Found::Record {
@@ -207,7 +207,7 @@ fn elements_on(s: &[u8], at: usize, stage: Stage) -> NetworkPart
 pub fn network_file(s: &[u8]) -> NetworkPart
     ensures { λ r. ⌜ r ≡ networkPart (networkFile (now (s .entry))) ⌝ }
 {
-    let found = due_at(s, 0, Stage::Head, 0, 0);
+    let found = record_due(s, 0, Stage::Head, 0, 0);
     match found {
         Found::Refused(refusal) => refused_network(refusal),
         Found::Record {

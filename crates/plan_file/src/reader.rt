@@ -2,8 +2,8 @@
 use crate::plan::Plan;
 use network::refusal::Refusal;
 use network_file::reader::Reached;
+use record_reader::record_due;
 use records::Found;
-use records::due_at;
 use records::word_at;
 use stages::Stage;
 use stages::after_last;
@@ -42,7 +42,7 @@ fn read_steps(s: &[u8], count: usize, start: usize, first: Stage, links: usize) 
     let mut stage = first;
     let mut left = count;
     while 0 < left {
-        let found = due_at(s, at, stage, 0, links);
+        let found = record_due(s, at, stage, 0, links);
         match found {
             Found::Refused(refusal) => {
                 return refused_plan(refusal);
@@ -72,7 +72,7 @@ fn read_steps(s: &[u8], count: usize, start: usize, first: Stage, links: usize) 
 fn end_of_plan(s: &[u8], at: usize, stage: Stage, links: usize, plan: Plan) -> PlanPart
     ensures { λ r. ⌜ r ≡ planPart (planEndOn (now (s .entry)) links at stage plan) ⌝ }
 {
-    let found = due_at(s, at, stage, 0, links);
+    let found = record_due(s, at, stage, 0, links);
     match found {
         Found::Refused(refusal) => refused_plan(refusal),
         Found::Record {
@@ -109,7 +109,7 @@ fn steps_on(s: &[u8], head: usize, at: usize, stage: Stage, links: usize) -> Pla
 pub fn plan_file(s: &[u8], at: usize, links: usize) -> PlanPart
     ensures { λ r. ⌜ r ≡ planPart (planFile (now (s .entry)) links at) ⌝ }
 {
-    let found = due_at(s, at, Stage::PlanHead, 0, links);
+    let found = record_due(s, at, Stage::PlanHead, 0, links);
     match found {
         Found::Refused(refusal) => refused_plan(refusal),
         Found::Record {

@@ -19,7 +19,7 @@ pub enum Found {
 }
 
 // How many bytes of `s` stand from `at` on; none where `at` is past the end.
-fn bytes_left(s: &[u8], at: usize) -> usize
+pub fn bytes_left(s: &[u8], at: usize) -> usize
     ensures { λ r. ⌜ r ≡ length (now (s .entry)) - at ⌝ }
 {
     if s.len() <= at {

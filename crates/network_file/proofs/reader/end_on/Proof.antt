@@ -12,8 +12,8 @@ use borrow.Author.Needs.{needs}
 use Rattle.network_file.proofs.reader.end_on.Statement.{statement}
 use Rattle.network_file.proofs.reader.end_on.Tie as tie
 
-due-at-requires : tie.Need-due-at-requires
-due-at-requires c κs = tt
+record-due-requires : tie.Need-record-due-requires
+record-due-requires c κs = tt
 
 enum-known-found : tie.Need-enum-known-found
 enum-known-found c = search needs
@@ -33,29 +33,29 @@ add-after c =
     omega (
       arith,
       due-kept (args .s .now) 0 0 (args .at) (args .stage)
-          (sym (c .before .before .before .due-at .ensures) ∙ c .before .found2 .given .1) .framed .fits,
+          (sym (c .before .before .before .record-due .ensures) ∙ c .before .found2 .given .1) .framed .fits,
     )
 
 returns : tie.Need-returns
 unfolding endOn
 returns c =
     let args = c .before .before .before .before .before .before .args in
-    let due-at = c .before .before .before .before .due-at in
+    let record-due = c .before .before .before .before .record-due in
     c .refused-network .ensures ∙ ap networkPart (run-refused (args .s .now) 0 0 asIs _ 1 (args .at) (args .stage) (args .net) refl _ (omega arith)
-    (due-at .ensures) _ (c .before .before .found .given .1))
+    (record-due .ensures) _ (c .before .before .found .given .1))
 
 returns-2 : tie.Need-returns-2
 unfolding endOn networkPart
 returns-2 c =
     let args = c .before .before .before .before .before .args in
     ap networkPart (sym (records-none (args .s .now) 0 0 asIs _ _ (args .net)) ∙ run-turn (args .s .now) 0 0 asIs _ 1 (args .at) (args .stage)
-    (args .net) refl _ (omega arith) (c .before .before .before .due-at .ensures) _ _ _ (c .before .found2 .given .1))
+    (args .net) refl _ (omega arith) (c .before .before .before .record-due .ensures) _ _ _ (c .before .found2 .given .1))
 
 pub end-on-spec : {M : Type 1} → statement M
 end-on-spec =
     tie.close
     (tie.spec
-    due-at-requires
+    record-due-requires
     enum-known-found
     refused-network-requires
     enum-known-found-2

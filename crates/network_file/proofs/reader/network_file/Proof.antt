@@ -13,8 +13,8 @@ use borrow.Author.Needs.{needs}
 use Rattle.network_file.proofs.reader.network_file.Statement.{statement}
 use Rattle.network_file.proofs.reader.network_file.Tie as tie
 
-due-at-requires : tie.Need-due-at-requires
-due-at-requires c κs = tt
+record-due-requires : tie.Need-record-due-requires
+record-due-requires c κs = tt
 
 enum-known-found : tie.Need-enum-known-found
 enum-known-found c = search needs
@@ -31,30 +31,30 @@ cast-elements-on c = omega arith
 elements-on-requires : tie.Need-elements-on-requires
 elements-on-requires c κs =
     let args = c .before .before .before .before .before .args in
-    let w = due-kept (args .s .now) 0 0 0 Head (sym (c .before .before .before .due-at .ensures) ∙ c .before .found2 .given .1) in let h = head-kept
+    let w = due-kept (args .s .now) 0 0 0 Head (sym (c .before .before .before .record-due .ensures) ∙ c .before .found2 .given .1) in let h = head-kept
     w in (omega (arith, w .framed .fits, w .framed .enough), h .elements-fit, h .links-fit, w .framed .next-at)
 
 returns : tie.Need-returns
 unfolding networkFile
 returns c =
     let args = c .before .before .before .before .before .before .args in
-    let due-at = c .before .before .before .before .due-at in
-    c .refused-network .ensures ∙ ap networkPart (head-refused (args .s .now) 0 0 Head emptyNetwork (elementsOn (args .s .now)) _ (due-at .ensures) _
+    let record-due = c .before .before .before .before .record-due in
+    c .refused-network .ensures ∙ ap networkPart (head-refused (args .s .now) 0 0 Head emptyNetwork (elementsOn (args .s .now)) _ (record-due .ensures) _
     (c .before .before .found .given .1))
 
 returns-2 : tie.Need-returns-2
 unfolding networkFile
 returns-2 c =
     let args = c .before .before .before .before .before .before .args in
-    let due-at = c .before .before .before .before .due-at in
+    let record-due = c .before .before .before .before .record-due in
     c .elements-on .ensures ∙ ap networkPart (rw zero-add at (head-found (args .s .now) 0 0 Head emptyNetwork (elementsOn (args .s .now)) _
-    (due-at .ensures) _ _ _ (c .before .before .found2 .given .1)))
+    (record-due .ensures) _ _ _ (c .before .before .found2 .given .1)))
 
 pub network-file-spec : {M : Type 1} → statement M
 network-file-spec =
     tie.close
     (tie.spec
-    due-at-requires
+    record-due-requires
     enum-known-found
     refused-network-requires
     enum-known-found-2

@@ -32,8 +32,8 @@ loop-holds c =
     let pre = c .before .before .pre in
     let n = ap (λ (x : Network). x .elements) (c .empty .ensures) in (pre .1, omega (arith, n, pre .0), refl)
 
-due-at-requires : tie.Need-due-at-requires Inv-loop μ-loop
-due-at-requires c κs = tt
+record-due-requires : tie.Need-record-due-requires Inv-loop μ-loop
+record-due-requires c κs = tt
 
 enum-known-found : tie.Need-enum-known-found Inv-loop μ-loop
 enum-known-found c = search needs
@@ -45,12 +45,12 @@ returns : tie.Need-returns Inv-loop μ-loop
 returns c =
     let args = c .before .before .before .before .before .before .before .before .before .args in
     let loop = c .before .before .before .before .before .before .loop in
-    let due-at = c .before .before .before .before .due-at in
+    let record-due = c .before .before .before .before .record-due in
     let empty = c .before .before .before .before .before .before .before .empty in
     c .refused-network .ensures ∙
     ap networkPart
     (run-refused (args .s .now) 0 0 (withElement (args .s .now)) _ (loop .left) (loop .at) (loop .stage) (loop .net) (loop .inv .2) _ (omega arith)
-    (due-at .ensures) _ (c .before .before .found .given .1)) ∙
+    (record-due .ensures) _ (c .before .before .found .given .1)) ∙
     ap (λ (x : Network). networkPart (records (args .s .now) 0 0 (withElement (args .s .now)) (args .count) (args .start) (args .first) x))
     (empty .ensures)
 
@@ -65,7 +65,7 @@ turn :
 turn c =
     let args = c .before .before .before .before .before .before .before .before .args in
     let loop = c .before .before .before .before .before .loop in
-    turn-whole (args .s .now) 0 0 (loop .at) (loop .stage) Elements _ _ _ _ (c .before .before .before .due-at .ensures) (loop .inv .0)
+    turn-whole (args .s .now) 0 0 (loop .at) (loop .stage) Elements _ _ _ _ (c .before .before .before .record-due .ensures) (loop .inv .0)
     (c .before .found2 .given .1)
 
 element-at-requires : tie.Need-element-at-requires Inv-loop μ-loop
@@ -108,14 +108,14 @@ loop-again : tie.Need-loop-again Inv-loop μ-loop
 loop-again c =
     let args = c .before .before .before .before .before .before .before .before .before .args in
     let loop = c .before .before .before .before .before .before .loop in
-    let due-at = c .before .before .before .before .due-at in
+    let record-due = c .before .before .before .before .record-due in
     let w = turn (c .before) in (
       w .next-is,
       omega arith,
       ap (records (args .s .now) 0 0 (withElement (args .s .now)) (loop .left - 1) _ _)
           (element-taken (args .s .now) (loop .at) (loop .net) _ (c .element-at .ensures)) ∙
           run-turn (args .s .now) 0 0 (withElement (args .s .now)) _ (loop .left) (loop .at) (loop .stage) (loop .net) (loop .inv .2) _ (omega arith)
-          (due-at .ensures) _ _ _ (c .before .before .found2 .given .1),
+          (record-due .ensures) _ _ _ (c .before .before .found2 .given .1),
     )
 
 returns-2 : tie.Need-returns-2 Inv-loop μ-loop
@@ -137,7 +137,7 @@ read-elements-spec =
     μ-loop
     empty-requires
     loop-holds
-    due-at-requires
+    record-due-requires
     enum-known-found
     refused-network-requires
     returns

@@ -26,8 +26,8 @@ loop-holds c =
     let pre = c .before .pre in
     (pre .1, pre .0, refl)
 
-due-at-requires : tie.Need-due-at-requires Inv-loop μ-loop
-due-at-requires c κs = tt
+record-due-requires : tie.Need-record-due-requires Inv-loop μ-loop
+record-due-requires c κs = tt
 
 enum-known-found : tie.Need-enum-known-found Inv-loop μ-loop
 enum-known-found c = search needs
@@ -39,11 +39,11 @@ returns : tie.Need-returns Inv-loop μ-loop
 returns c =
     let args = c .before .before .before .before .before .before .before .before .args in
     let loop = c .before .before .before .before .before .before .loop in
-    let due-at = c .before .before .before .before .due-at in
+    let record-due = c .before .before .before .before .record-due in
     c .refused-network .ensures ∙
     ap networkPart
     (run-refused (args .s .now) (args .elements .elements) 0 (withLink (args .s .now)) _ (loop .left) (loop .at) (loop .stage) (loop .net)
-    (loop .inv .2) _ (omega arith) (due-at .ensures) _ (c .before .before .found .given .1))
+    (loop .inv .2) _ (omega arith) (record-due .ensures) _ (c .before .before .found .given .1))
 
 enum-known-found-2 : tie.Need-enum-known-found-2 Inv-loop μ-loop
 enum-known-found-2 c = search needs
@@ -56,7 +56,7 @@ turn :
 turn c =
     let args = c .before .before .before .before .before .before .before .args in
     let loop = c .before .before .before .before .before .loop in
-    turn-whole (args .s .now) (args .elements .elements) 0 (loop .at) (loop .stage) Links _ _ _ _ (c .before .before .before .due-at .ensures)
+    turn-whole (args .s .now) (args .elements .elements) 0 (loop .at) (loop .stage) Links _ _ _ _ (c .before .before .before .record-due .ensures)
     (loop .inv .0) (c .before .found2 .given .1)
 
 link-at-requires : tie.Need-link-at-requires Inv-loop μ-loop
@@ -105,14 +105,14 @@ loop-again : tie.Need-loop-again Inv-loop μ-loop
 loop-again c =
     let args = c .before .before .before .before .before .before .before .before .args in
     let loop = c .before .before .before .before .before .before .loop in
-    let due-at = c .before .before .before .before .due-at in
+    let record-due = c .before .before .before .before .record-due in
     let w = turn (c .before) in (
       w .next-is,
       omega arith,
       ap (records (args .s .now) (args .elements .elements) 0 (withLink (args .s .now)) (loop .left - 1) _ _)
           (link-taken (args .s .now) (loop .at) (loop .net) _ (c .link-at .ensures)) ∙
           run-turn (args .s .now) (args .elements .elements) 0 (withLink (args .s .now)) _ (loop .left) (loop .at) (loop .stage) (loop .net)
-          (loop .inv .2) _ (omega arith) (due-at .ensures) _ _ _ (c .before .before .found2 .given .1),
+          (loop .inv .2) _ (omega arith) (record-due .ensures) _ _ _ (c .before .before .found2 .given .1),
     )
 
 returns-2 : tie.Need-returns-2 Inv-loop μ-loop
@@ -131,7 +131,7 @@ read-links-spec =
     Inv-loop
     μ-loop
     loop-holds
-    due-at-requires
+    record-due-requires
     enum-known-found
     refused-network-requires
     returns

@@ -12,8 +12,8 @@ use borrow.Author.Needs.{needs}
 use Rattle.plan_file.proofs.reader.end_of_plan.Statement.{statement}
 use Rattle.plan_file.proofs.reader.end_of_plan.Tie as tie
 
-due-at-requires : tie.Need-due-at-requires
-due-at-requires c κs = tt
+record-due-requires : tie.Need-record-due-requires
+record-due-requires c κs = tt
 
 enum-known-found : tie.Need-enum-known-found
 enum-known-found c = search needs
@@ -33,29 +33,29 @@ add-after c =
     omega (
       arith,
       due-kept (args .s .now) 0 (args .links) (args .at) (args .stage)
-          (sym (c .before .before .before .due-at .ensures) ∙ c .before .found2 .given .1) .framed .fits,
+          (sym (c .before .before .before .record-due .ensures) ∙ c .before .found2 .given .1) .framed .fits,
     )
 
 returns : tie.Need-returns
 unfolding planEndOn
 returns c =
     let args = c .before .before .before .before .before .before .args in
-    let due-at = c .before .before .before .before .due-at in
+    let record-due = c .before .before .before .before .record-due in
     c .refused-plan .ensures ∙ ap planPart (run-refused (args .s .now) 0 (args .links) asIs _ 1 (args .at) (args .stage) (args .plan) refl _
-    (omega arith) (due-at .ensures) _ (c .before .before .found .given .1))
+    (omega arith) (record-due .ensures) _ (c .before .before .found .given .1))
 
 returns-2 : tie.Need-returns-2
 unfolding planEndOn planPart
 returns-2 c =
     let args = c .before .before .before .before .before .args in
     ap planPart (sym (records-none (args .s .now) 0 (args .links) asIs _ _ (args .plan)) ∙ run-turn (args .s .now) 0 (args .links) asIs _ 1 (args .at)
-    (args .stage) (args .plan) refl _ (omega arith) (c .before .before .before .due-at .ensures) _ _ _ (c .before .found2 .given .1))
+    (args .stage) (args .plan) refl _ (omega arith) (c .before .before .before .record-due .ensures) _ _ _ (c .before .found2 .given .1))
 
 pub end-of-plan-spec : {M : Type 1} → statement M
 end-of-plan-spec =
     tie.close
     (tie.spec
-    due-at-requires
+    record-due-requires
     enum-known-found
     refused-plan-requires
     enum-known-found-2

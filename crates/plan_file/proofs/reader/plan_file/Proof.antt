@@ -11,8 +11,8 @@ use borrow.Author.Needs.{needs}
 use Rattle.plan_file.proofs.reader.plan_file.Statement.{statement}
 use Rattle.plan_file.proofs.reader.plan_file.Tie as tie
 
-due-at-requires : tie.Need-due-at-requires
-due-at-requires c κs = tt
+record-due-requires : tie.Need-record-due-requires
+record-due-requires c κs = tt
 
 enum-known-found : tie.Need-enum-known-found
 enum-known-found c = search needs
@@ -30,13 +30,13 @@ add-steps-on : tie.Need-add-steps-on
 add-steps-on c =
     let args = c .before .before .before .before .before .args in
     let w = due-kept (args .s .now) 0 (args .links) (args .at) PlanHead
-    (sym (c .before .before .before .due-at .ensures) ∙ c .before .found2 .given .1) in omega (arith, w .framed .fits)
+    (sym (c .before .before .before .record-due .ensures) ∙ c .before .found2 .given .1) in omega (arith, w .framed .fits)
 
 steps-on-requires : tie.Need-steps-on-requires
 steps-on-requires c κs =
     let args = c .before .before .before .before .before .args in
     let w = due-kept (args .s .now) 0 (args .links) (args .at) PlanHead
-    (sym (c .before .before .before .due-at .ensures) ∙ c .before .found2 .given .1) in (
+    (sym (c .before .before .before .record-due .ensures) ∙ c .before .found2 .given .1) in (
       omega (arith, w .framed .fits, w .framed .enough),
       plan-head-kept w,
       w .framed .next-at,
@@ -46,23 +46,23 @@ returns : tie.Need-returns
 unfolding planFile
 returns c =
     let args = c .before .before .before .before .before .before .args in
-    let due-at = c .before .before .before .before .due-at in
+    let record-due = c .before .before .before .before .record-due in
     c .refused-plan .ensures ∙ ap planPart (head-refused (args .s .now) (args .links) (args .at) PlanHead emptyPlan
-    (stepsOn (args .s .now) (args .links) (args .at)) _ (due-at .ensures) _ (c .before .before .found .given .1))
+    (stepsOn (args .s .now) (args .links) (args .at)) _ (record-due .ensures) _ (c .before .before .found .given .1))
 
 returns-2 : tie.Need-returns-2
 unfolding planFile
 returns-2 c =
     let args = c .before .before .before .before .before .before .args in
-    let due-at = c .before .before .before .before .due-at in
+    let record-due = c .before .before .before .before .record-due in
     c .steps-on .ensures ∙ ap planPart (head-found (args .s .now) (args .links) (args .at) PlanHead emptyPlan
-    (stepsOn (args .s .now) (args .links) (args .at)) _ (due-at .ensures) _ _ _ (c .before .before .found2 .given .1))
+    (stepsOn (args .s .now) (args .links) (args .at)) _ (record-due .ensures) _ _ _ (c .before .before .found2 .given .1))
 
 pub plan-file-spec : {M : Type 1} → statement M
 plan-file-spec =
     tie.close
     (tie.spec
-    due-at-requires
+    record-due-requires
     enum-known-found
     refused-plan-requires
     enum-known-found-2

@@ -31,8 +31,8 @@ loop-holds c =
     let pre = c .before .before .pre in
     let n = ap (λ (x : Plan). x .steps) (c .empty .ensures) in (pre .1, omega (arith, n, pre .0), refl)
 
-due-at-requires : tie.Need-due-at-requires Inv-loop μ-loop
-due-at-requires c κs = tt
+record-due-requires : tie.Need-record-due-requires Inv-loop μ-loop
+record-due-requires c κs = tt
 
 enum-known-found : tie.Need-enum-known-found Inv-loop μ-loop
 enum-known-found c = search needs
@@ -44,12 +44,12 @@ returns : tie.Need-returns Inv-loop μ-loop
 returns c =
     let args = c .before .before .before .before .before .before .before .before .before .args in
     let loop = c .before .before .before .before .before .before .loop in
-    let due-at = c .before .before .before .before .due-at in
+    let record-due = c .before .before .before .before .record-due in
     let empty = c .before .before .before .before .before .before .before .empty in
     c .refused-plan .ensures ∙
     ap planPart
     (run-refused (args .s .now) 0 (args .links) (withStep (args .s .now)) _ (loop .left) (loop .at) (loop .stage) (loop .plan) (loop .inv .2) _
-    (omega arith) (due-at .ensures) _ (c .before .before .found .given .1)) ∙
+    (omega arith) (record-due .ensures) _ (c .before .before .found .given .1)) ∙
     ap (λ (x : Plan). planPart (records (args .s .now) 0 (args .links) (withStep (args .s .now)) (args .count) (args .start) (args .first) x))
     (empty .ensures)
 
@@ -67,7 +67,7 @@ turn :
 turn c =
     let args = c .before .before .before .before .before .before .before .before .args in
     let loop = c .before .before .before .before .before .loop in
-    turn-whole (args .s .now) 0 (args .links) (loop .at) (loop .stage) Steps _ _ _ _ (c .before .before .before .due-at .ensures) (loop .inv .0)
+    turn-whole (args .s .now) 0 (args .links) (loop .at) (loop .stage) Steps _ _ _ _ (c .before .before .before .record-due .ensures) (loop .inv .0)
     (c .before .found2 .given .1)
 
 add-word-at : tie.Need-add-word-at Inv-loop μ-loop
@@ -110,7 +110,7 @@ loop-again : tie.Need-loop-again Inv-loop μ-loop
 loop-again c =
     let args = c .before .before .before .before .before .before .before .before .before .before .args in
     let loop = c .before .before .before .before .before .before .before .loop in
-    let due-at = c .before .before .before .before .before .due-at in
+    let record-due = c .before .before .before .before .before .record-due in
     let found2 = c .before .before .before .found2 in
     let w = turn (c .before .before) in (
       w .next-is,
@@ -118,7 +118,7 @@ loop-again c =
       ap (records (args .s .now) 0 (args .links) (withStep (args .s .now)) (loop .left - 1) _ _)
           (step-taken (args .s .now) (loop .at) (loop .plan) _ _ (c .before .word-at .ensures) (c .word-at2 .ensures)) ∙
           run-turn (args .s .now) 0 (args .links) (withStep (args .s .now)) _ (loop .left) (loop .at) (loop .stage) (loop .plan) (loop .inv .2) _
-          (omega arith) (due-at .ensures) _ _ _ (found2 .given .1),
+          (omega arith) (record-due .ensures) _ _ _ (found2 .given .1),
     )
 
 returns-2 : tie.Need-returns-2 Inv-loop μ-loop
@@ -140,7 +140,7 @@ read-steps-spec =
     μ-loop
     empty-requires
     loop-holds
-    due-at-requires
+    record-due-requires
     enum-known-found
     refused-plan-requires
     returns

@@ -1,0 +1,131 @@
+//! Damaged inputs.
+use crate::random::Random;
+use std::ops::Range;
+
+const EDGES: [u16; 21] = [0, 0, 0, 1, 2, 3, 4, 5, 6, 63, 64, 65, 95, 96, 97, 255, 256, 256, 257, 65535, 65535];
+
+/// One to three damages, mostly one.
+pub fn damaged(r: &mut Random, mut file: Vec<u8>) -> Vec<u8> {
+    for _ in 0..r.pick(&[1, 1, 1, 1, 2, 3]) {
+        if !file.is_empty() {
+            damage(r, &mut file);
+        }
+    }
+    file
+}
+
+fn damage(r: &mut Random, file: &mut Vec<u8>) {
+    match r.below(100) {
+        0..8 => change_byte(r, file),
+        8..14 => change_word(r, file),
+        14..58 => change_field(r, file),
+        58..67 => file.truncate(r.below(file.len())),
+        67..74 => append(r, file),
+        74..79 => drop_record(r, file),
+        79..84 => double_record(r, file),
+        84..89 => swap_records(r, file),
+        89..94 => change_front(r, file, 0),
+        94..99 => change_front(r, file, 2),
+        _ => file.clear(),
+    }
+}
+
+fn change_byte(r: &mut Random, file: &mut [u8]) {
+    let (at, any) = (r.below(file.len()), r.below(256) as u8);
+    file[at] = r.pick(&[0, 1, 2, 255, any, file[at].wrapping_add(1), file[at].wrapping_sub(1)]);
+}
+
+fn put_edge(r: &mut Random, file: &mut [u8], at: usize) {
+    if at + 2 <= file.len() {
+        file[at..at + 2].copy_from_slice(&r.pick(&EDGES).to_le_bytes());
+    }
+}
+
+fn change_word(r: &mut Random, file: &mut [u8]) {
+    let at = r.below(file.len()) / 2 * 2;
+    put_edge(r, file, at);
+}
+
+/// The records, as far as their lengths make sense.
+fn records(file: &[u8]) -> Vec<Range<usize>> {
+    let mut found = vec![];
+    let mut at = 0;
+    while at + 4 <= file.len() {
+        let length = u16::from_le_bytes([file[at], file[at + 1]]) as usize;
+        if length < 4 || at + length > file.len() {
+            break;
+        }
+        found.push(at..at + length);
+        at += length;
+    }
+    found
+}
+
+fn any_record(r: &mut Random, file: &[u8]) -> Range<usize> {
+    let found = records(file);
+    if found.is_empty() {
+        return 0..0;
+    }
+    found[r.below(found.len())].clone()
+}
+
+/// A record of a kind drawn first, so that heads are drawn as often as links and steps more often.
+fn record_of_a_kind(r: &mut Random, file: &[u8]) -> Range<usize> {
+    let kind = r.pick(&[1, 2, 3, 3, 5, 6, 6]);
+    let found: Vec<Range<usize>> = records(file).into_iter().filter(|record| file[record.start + 2] == kind).collect();
+    if found.is_empty() {
+        return any_record(r, file);
+    }
+    found[r.below(found.len())].clone()
+}
+
+/// A field behind a record's length and kind set to an edge value.
+fn change_field(r: &mut Random, file: &mut [u8]) {
+    let record = record_of_a_kind(r, file);
+    if record.len() >= 6 {
+        let at = record.start + 4 + 2 * r.below((record.len() - 4) / 2);
+        put_edge(r, file, at);
+    }
+}
+
+/// A record's length (at 0) or kind (at 2).
+fn change_front(r: &mut Random, file: &mut [u8], field: usize) {
+    let record = any_record(r, file);
+    let at = record.start + field;
+    if at + 2 > file.len() {
+        return;
+    }
+    let number = r.pick(&[0, 1, 2, 3, 4, 5, 6, 7, 8, 10, 12, 256, 258, 65535]);
+    file[at..at + 2].copy_from_slice(&u16::to_le_bytes(number));
+}
+
+fn append(r: &mut Random, file: &mut Vec<u8>) {
+    let more = r.pick(&[1, 1, 2, 3, 4, 8, 40]);
+    file.extend((0..more).map(|_| r.below(256) as u8));
+}
+
+fn drop_record(r: &mut Random, file: &mut Vec<u8>) {
+    let record = any_record(r, file);
+    file.drain(record);
+}
+
+fn double_record(r: &mut Random, file: &mut Vec<u8>) {
+    let record = any_record(r, file);
+    let copy = file[record.clone()].to_vec();
+    file.splice(record.end..record.end, copy);
+}
+
+fn swap_records(r: &mut Random, file: &mut Vec<u8>) {
+    let (a, b) = (any_record(r, file), any_record(r, file));
+    let (a, b) = if a.start < b.start { (a, b) } else { (b, a) };
+    if a.end <= b.start {
+        let swapped = [&file[b.clone()], &file[a.end..b.start], &file[a.clone()]].concat();
+        file.splice(a.start..b.end, swapped);
+    }
+}
+
+pub fn random_bytes(r: &mut Random, most: usize) -> Vec<u8> {
+    let length = r.below(most + 1);
+    let few = r.one_in(2);
+    (0..length).map(|_| if few { r.below(4) as u8 } else { r.below(256) as u8 }).collect()
+}

@@ -1,0 +1,112 @@
+//! The proved functions beside the independent ones on random inputs: every printed byte, every value, and every byte of the lent buffers.
+use crate::library;
+use bench::counts::Counts;
+use bench::independent::{self, Mark, Reply};
+use bench::inputs::input;
+use bench::random::Random;
+use std::fmt::Debug;
+
+/// What a lent buffer holds before a call; no line and no plan file has this byte.
+const PATTERN: u8 = b'~';
+/// By how much a long buffer exceeds what goes into it: enough for any lines.
+const MORE: usize = 200;
+
+/// Of so many inputs, every kind of reply and mark must occur.
+const ENOUGH: usize = 20_000;
+
+/// What differed, and what each side gave.
+type Difference = String;
+
+/// Compares on so many inputs; on a difference says all that is needed to see it again.
+pub fn run(seed: u64, count: usize) -> Result<(), String> {
+    let mut r = Random::new(seed);
+    let mut counts = Counts::default();
+    for number in 1..=count {
+        let input = input(&mut r);
+        let room = r.below(60);
+        compare(&input, room, &mut counts).map_err(|difference| {
+            let hex: String = input.iter().map(|byte| format!("{byte:02x}")).collect();
+            format!("difference at seed {seed}, input {number} of {} bytes:\n{hex}\n{difference}", input.len())
+        })?;
+    }
+    print!("{counts}");
+    println!("{count} inputs, seed {seed}: 0 differences");
+    let missing = counts.missing();
+    if count >= ENOUGH && !missing.is_empty() {
+        return Err(format!("never occurred: {}", missing.join(", ")));
+    }
+    Ok(())
+}
+
+/// All comparisons on one input; `room` is the size of one more plan buffer, of any length.
+fn compare(input: &[u8], room: usize, counts: &mut Counts) -> Result<(), Difference> {
+    let (mut plan_text, mut mark_text) = (vec![], vec![]);
+    independent::plan_text(input, &mut plan_text);
+    independent::mark_text(input, &mut mark_text);
+    same_text("the planner's lines", input, library::plan_text, &plan_text)?;
+    same_text("the judge's line", input, library::mark_text, &mark_text)?;
+    let reply = independent::plan(input);
+    let needed = independent::plan_file(input).map_or(0, |file| file.len());
+    for room in [needed + MORE, needed, needed.saturating_sub(1), room] {
+        same_reply(input, &reply, room)?;
+    }
+    same("the mark", library::mark(input), mark_values(independent::mark(input)))?;
+    counts.add(&plan_text, &mark_text);
+    Ok(())
+}
+
+fn same<T: PartialEq + Debug>(what: &str, proved: T, other: T) -> Result<(), Difference> {
+    if proved == other {
+        return Ok(());
+    }
+    Err(format!("{what}\nproved: {proved:?}\nRust:   {other:?}"))
+}
+
+/// Into more room than needed, just enough and too little by one: the length handed back, and the bytes.
+fn same_text(what: &str, input: &[u8], write: fn(&[u8], &mut [u8]) -> usize, text: &[u8]) -> Result<(), Difference> {
+    for room in [text.len() + MORE, text.len(), text.len() - 1] {
+        let (mut out, mut wanted) = (vec![PATTERN; room], vec![PATTERN; room]);
+        let length = write(input, &mut out);
+        if text.len() <= room {
+            wanted[..text.len()].copy_from_slice(text);
+        }
+        if (length, &out) != (text.len(), &wanted) {
+            let what = format!("{what} in {room} bytes: length and bytes");
+            return same(&what, (length, String::from_utf8_lossy(&out)), (text.len(), String::from_utf8_lossy(&wanted)));
+        }
+    }
+    Ok(())
+}
+
+/// The planner's values and its plan file in a buffer of that size: rule 19 where it doesn't fit.
+fn same_reply(input: &[u8], reply: &Reply, room: usize) -> Result<(), Difference> {
+    let (mut buffer, mut wanted) = (vec![PATTERN; room], vec![PATTERN; room]);
+    let values = library::plan(input, &mut buffer);
+    let wanted_values = put_reply(reply, &mut wanted);
+    same(&format!("the planner's values with {room} bytes"), values, wanted_values)?;
+    same(&format!("the planner's buffer of {room} bytes"), buffer, wanted)
+}
+
+fn put_reply(reply: &Reply, buffer: &mut [u8]) -> (u64, [u64; 5]) {
+    match reply {
+        Reply::Refused(refusal) => (0, [refusal.rule, refusal.place, 0, 0, 0]),
+        Reply::None(sums) => (2, [0, 0, sums.fed, sums.dark, sums.lost]),
+        Reply::Plan(plan, sums) => {
+            let file = plan.file();
+            if buffer.len() < file.len() {
+                return (0, [19, file.len() as u64, 0, 0, 0]);
+            }
+            buffer[..file.len()].copy_from_slice(&file);
+            (1, [plan.steps() as u64, plan.cost, sums.fed, sums.dark, sums.lost])
+        }
+    }
+}
+
+fn mark_values(mark: Mark) -> (u64, [u64; 2]) {
+    match mark {
+        Mark::Refused(refusal) => (0, [refusal.rule, refusal.place]),
+        Mark::Broken { step, reason } => (1, [step, reason]),
+        Mark::Short { element } => (2, [element, 0]),
+        Mark::Valid { cost, excess } => (3, [cost, excess]),
+    }
+}

@@ -1,0 +1,57 @@
+//! The planner and the judge, written from document 01 alone and unverified: sets as bit masks, and a search that carries its parts along.
+mod accepted;
+mod bits;
+mod judge;
+mod near;
+mod network;
+mod planner;
+mod reader;
+mod search;
+mod start;
+mod submitted;
+mod text;
+
+pub use accepted::Accepted;
+pub use bits::bits;
+pub use judge::{mark, Mark, Trial};
+pub use planner::{plan, Plan, Reply};
+pub use reader::Refusal;
+pub use start::Start;
+
+use reader::Reader;
+
+/// The planning program's printed lines behind what `out` holds.
+pub fn plan_text(input: &[u8], out: &mut Vec<u8>) {
+    text::reply(out, &plan(input));
+}
+
+/// The judging program's printed line behind what `out` holds.
+pub fn mark_text(input: &[u8], out: &mut Vec<u8>) {
+    text::mark(out, &mark(input));
+}
+
+/// The plan file, or `None` where there is no plan.
+pub fn plan_file(input: &[u8]) -> Option<Vec<u8>> {
+    match plan(input) {
+        Reply::Plan(plan, _) => Some(plan.file()),
+        _ => None,
+    }
+}
+
+/// A network file's network that keeps rules 1 to 13.
+fn read_alone(input: &[u8]) -> Result<network::Network, Refusal> {
+    let mut reader = Reader::new(input);
+    let network = network::Network::read(&mut reader)?;
+    reader.finish()?;
+    Ok(network)
+}
+
+/// What rules 14 to 16 leave of a network file alone.
+pub fn start(input: &[u8]) -> Result<Start, Refusal> {
+    Start::of(&read_alone(input)?).map(|(start, _)| start)
+}
+
+/// A network file's network that keeps rules 1 to 18.
+pub fn accept(input: &[u8]) -> Result<Accepted, Refusal> {
+    Accepted::from(read_alone(input)?)
+}

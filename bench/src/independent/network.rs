@@ -1,0 +1,96 @@
+//! A network as its file states it, with rules 5 to 9.
+use super::reader::{Reader, Record, Refusal, ELEMENT, HEAD, LINK};
+
+pub const ELEMENTS: usize = 64;
+pub const LINKS: usize = 96;
+
+#[derive(Clone, Copy, Default)]
+pub struct Rated {
+    pub load: u16,
+    pub capacity: u16,
+}
+
+pub struct Network {
+    pub elements: usize,
+    pub links: usize,
+    /// of each element its own load and its capacity
+    pub rated: [Rated; ELEMENTS],
+    /// sources that aren't faulty
+    pub sound: u64,
+    pub faulty: u64,
+    pub ends: [(u8, u8); LINKS],
+    pub cost: [u16; LINKS],
+    pub fixed: u128,
+    /// the links closed at the start, fixed ones among them
+    pub closed: u128,
+}
+
+impl Network {
+    /// The records of a network file up to its end record.
+    pub fn read(reader: &mut Reader) -> Result<Network, Refusal> {
+        let head = reader.record(HEAD)?;
+        let [elements, links] = head.fields.map(usize::from);
+        head.demand(5, (1..=ELEMENTS).contains(&elements) && links <= LINKS)?;
+        let mut network = Network::empty(elements, links);
+        for element in 0..elements {
+            network.put_element(element, reader.record(ELEMENT)?)?;
+        }
+        for link in 0..links {
+            network.put_link(link, reader.record(LINK)?)?;
+        }
+        reader.end()?;
+        Ok(network)
+    }
+
+    fn empty(elements: usize, links: usize) -> Network {
+        Network {
+            elements,
+            links,
+            rated: [Rated::default(); ELEMENTS],
+            sound: 0,
+            faulty: 0,
+            ends: [(0, 0); LINKS],
+            cost: [0; LINKS],
+            fixed: 0,
+            closed: 0,
+        }
+    }
+
+    fn put_element(&mut self, element: usize, record: Record<3>) -> Result<(), Refusal> {
+        let [load, capacity, flags] = record.fields;
+        record.demand(6, flags <= 3)?;
+        self.rated[element] = Rated { load, capacity };
+        self.sound |= ((flags == 1) as u64) << element;
+        self.faulty |= ((flags >= 2) as u64) << element;
+        Ok(())
+    }
+
+    fn put_link(&mut self, link: usize, record: Record<4>) -> Result<(), Refusal> {
+        let [a, b, form, cost] = record.fields;
+        record.demand(7, a.max(b) < self.elements as u16 && a != b)?;
+        record.demand(8, form <= 2)?;
+        record.demand(9, (form == 0) == (cost == 0))?;
+        self.ends[link] = (a as u8, b as u8);
+        self.cost[link] = cost;
+        self.fixed |= ((form == 0) as u128) << link;
+        self.closed |= ((form != 1) as u128) << link;
+        Ok(())
+    }
+
+    pub fn ends(&self, link: usize) -> (usize, usize) {
+        let (a, b) = self.ends[link];
+        (a as usize, b as usize)
+    }
+
+    pub fn all(&self) -> u64 {
+        u64::MAX >> (ELEMENTS - self.elements)
+    }
+
+    pub fn every_link(&self) -> u128 {
+        (1 << self.links) - 1
+    }
+
+    pub fn load_of(&self, elements: u64) -> u64 {
+        super::bits(elements as u128).map(|e| self.rated[e].load as u64).sum()
+    }
+}

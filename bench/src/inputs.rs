@@ -1,0 +1,86 @@
+//! The inputs that planner and judge are compared on.
+use crate::damage::{damaged, random_bytes};
+use crate::draft::{plan_file, Draft};
+use crate::networks::{self, Kind};
+use crate::plans;
+use crate::random::Random;
+
+pub const LONGEST: usize = 9000;
+
+/// Networks, networks with a plan behind, and damaged ones.
+pub fn input(r: &mut Random) -> Vec<u8> {
+    match r.below(1000) {
+        0..380 => networks::network(r).file(),
+        380..700 => with_plan(r, networks::network),
+        700..960 => {
+            let file = either(r, networks::brief);
+            damaged(r, file)
+        }
+        960..980 => {
+            let file = either(r, networks::network);
+            damaged(r, file)
+        }
+        980..985 => random_bytes(r, 60),
+        985..988 => random_bytes(r, LONGEST),
+        988..992 => long(r),
+        _ => large(r),
+    }
+}
+
+/// The same mix from small networks, so that a thousand inputs stay small.
+pub fn brief_input(r: &mut Random) -> Vec<u8> {
+    match r.below(1000) {
+        0..200 => networks::brief(r).file(),
+        200..480 => with_plan(r, networks::brief),
+        480..900 => {
+            let file = either(r, networks::brief);
+            damaged(r, file)
+        }
+        900..912 => random_bytes(r, 60),
+        912..960 => with_plan(r, networks::network),
+        960..996 => networks::network(r).file(),
+        996 => large(r),
+        997 => long(r),
+        _ => vec![],
+    }
+}
+
+fn with_plan(r: &mut Random, network: fn(&mut Random) -> Draft) -> Vec<u8> {
+    let file = network(r).file();
+    behind(r, file)
+}
+
+fn behind(r: &mut Random, mut file: Vec<u8>) -> Vec<u8> {
+    let steps = plans::steps(r, &file);
+    file.extend(plan_file(&steps));
+    file
+}
+
+fn either(r: &mut Random, network: fn(&mut Random) -> Draft) -> Vec<u8> {
+    if r.one_in(3) {
+        return network(r).file();
+    }
+    with_plan(r, network)
+}
+
+/// The largest networks, alone or with a plan.
+fn large(r: &mut Random) -> Vec<u8> {
+    let kind = r.pick(&[Kind::SmallElement, Kind::SmallSources, Kind::Planned, Kind::Planned]);
+    let file = networks::large(r, kind).file();
+    if r.one_in(2) {
+        return behind(r, file);
+    }
+    file
+}
+
+/// A file with thousands of bytes behind it.
+fn long(r: &mut Random) -> Vec<u8> {
+    let mut file = either(r, networks::network);
+    let length = r.from(file.len() + 1, LONGEST);
+    let filler = file.clone();
+    while file.len() < length {
+        file.extend_from_slice(&filler);
+    }
+    file.truncate(length);
+    file
+}

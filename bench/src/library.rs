@@ -1,0 +1,33 @@
+//! The proved functions of the static library.
+
+extern "C" {
+    fn tamchuwe_plan(network: *const u8, length: usize, buffer: *mut u8, room: usize, values: *mut [u64; 5]) -> u64;
+    fn tamchuwe_plan_text(network: *const u8, length: usize, out: *mut u8, room: usize) -> usize;
+    fn tamchuwe_mark(input: *const u8, length: usize, values: *mut [u64; 2]) -> u64;
+    fn tamchuwe_mark_text(input: *const u8, length: usize, out: *mut u8, room: usize) -> usize;
+}
+
+/// The reply's kind (0 refused, 1 plan, 2 none) and its values: number and place; steps, cost, fed, dark and lost; 0, 0, fed, dark and lost.
+/// A plan's file goes into the buffer.
+pub fn plan(network: &[u8], buffer: &mut [u8]) -> (u64, [u64; 5]) {
+    let mut values = [0; 5];
+    let kind = unsafe { tamchuwe_plan(network.as_ptr(), network.len(), buffer.as_mut_ptr(), buffer.len(), &mut values) };
+    (kind, values)
+}
+
+/// The length of the planner's printed lines, which go into `out` if they fit.
+pub fn plan_text(network: &[u8], out: &mut [u8]) -> usize {
+    unsafe { tamchuwe_plan_text(network.as_ptr(), network.len(), out.as_mut_ptr(), out.len()) }
+}
+
+/// The mark's kind (0 refused, 1 broken, 2 short, 3 valid) and its values: number and place; step and reason; element and 0; cost and excess.
+pub fn mark(input: &[u8]) -> (u64, [u64; 2]) {
+    let mut values = [0; 2];
+    let kind = unsafe { tamchuwe_mark(input.as_ptr(), input.len(), &mut values) };
+    (kind, values)
+}
+
+/// The length of the judge's printed line, which goes into `out` if it fits.
+pub fn mark_text(input: &[u8], out: &mut [u8]) -> usize {
+    unsafe { tamchuwe_mark_text(input.as_ptr(), input.len(), out.as_mut_ptr(), out.len()) }
+}

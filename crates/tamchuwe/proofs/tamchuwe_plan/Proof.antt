@@ -1,0 +1,33 @@
+-- The numbers are those of the reply that `plan_into` gives.
+-- Assumes nothing.
+use mathlib.Core.Path.{_≡_, sym, ap, _∙_}
+use Rattle.tamchuwe.specs.Values.{replyKind, replyValues}
+use borrow.Author.Needs.{needs}
+use Rattle.tamchuwe.proofs.tamchuwe_plan.Statement.{statement}
+use Rattle.tamchuwe.proofs.tamchuwe_plan.Tie as tie
+
+plan-into-requires : tie.Need-plan-into-requires
+plan-into-requires c κs =
+    search needs
+
+reply-values-requires : tie.Need-reply-values-requires
+reply-values-requires c κs =
+    search needs
+
+reply-kind-requires : tie.Need-reply-kind-requires
+reply-kind-requires c κs =
+    search needs
+
+same-length : tie.Need-same-length
+same-length c =
+    search needs
+
+returns : tie.Need-returns
+returns c =
+    let plan-into· = c .before .before .before .before .plan-into in
+    (c .reply-kind .ensures ∙ ap replyKind (plan-into· .ensures .0), (plan-into· .ensures .1 .0, c .before .reply-values .ensures ∙ ap replyValues (plan-into· .ensures .0)))
+
+pub tamchuwe-plan-spec : {M : Type 1} → statement M
+tamchuwe-plan-spec =
+    tie.close
+    (tie.spec plan-into-requires reply-values-requires reply-kind-requires same-length returns)
