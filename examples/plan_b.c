@@ -21,8 +21,8 @@ static const uint16_t network_b[] = {
 };
 
 int main(void) {
-    uint8_t input[sizeof network_b + TAMCHUWE_PLAN_FILE];
-    uint8_t text[TAMCHUWE_PLAN_TEXT];
+    uint8_t input[sizeof network_b + TAMCHUWE_PLAN_FILE_LENGTH];
+    uint8_t text[TAMCHUWE_PLAN_TEXT_LENGTH];
     uint64_t values[5], mark[2];
     size_t n = 0;
     for (size_t i = 0; i < sizeof network_b / sizeof network_b[0]; i++) {

@@ -1,15 +1,38 @@
-/* Tamchuwe: the proved planner and judge for restoring radial feeders, as a static library.
+/* Tamchuwe: the proved planner and judge for restoring radial feeders, as a static library for x86-64 Linux.
  *
- *     rt staticlib tamchuwe          (writes target/staticlib/libtamchuwe.a, x86-64 Linux)
+ *     rt check tamchuwe && rt staticlib tamchuwe        (writes target/staticlib/libtamchuwe.a)
  *     cc -Iinclude yours.c target/staticlib/libtamchuwe.a
  *
- * The library allocates nothing, keeps nothing between calls and writes only where it is said below, so that threads may call it side by side on buffers
- * of their own. Of C's library it needs memcpy and memset. 64 KiB of stack suffice.
+ * What each function answers and writes is proved for every input; the contracts stand in crates/tamchuwe/src/lib.rt. Not proved, because C is
+ * outside the proofs: that the caller keeps what is asked here. Each pointer leads to as many bytes (or numbers) as the length beside it, or the
+ * array's size, says; none is null, also where its length is 0; numbers are aligned; and what is written overlaps no other argument.
+ * The library keeps nothing between calls, allocates nothing and writes only where it is said, so that threads may call it side by side. Of C's
+ * library it needs memcpy and memset. 64 KiB of stack suffice (measured, not proved).
  *
- * Input is any bytes at all: a network file (planner), or a network file with a plan file directly behind it (judge), as document 01 lays them out.
- * What breaks a rule is answered by the first rule that it breaks, with its number and place. A pointer must lead to as many bytes as the
- * length beside it says, and no buffer that is written may overlap another argument; a length of 0 goes with any pointer that is not null.
- * C cannot be held to this by the proofs: everything else is proved (crates/tamchuwe/src/lib.rt has the contracts). */
+ * INPUT is any bytes at all. The planner expects a network file, the judge a network file with a plan file directly behind it. All numbers in
+ * files are unsigned, two bytes, low byte first. A record is its length in bytes (the length field included), its kind, its fields:
+ *     network head   8, 1, elements (1 to 64), links (0 to 96)
+ *     element       10, 2, own load, capacity, flags (1 source, 2 faulty, 3 both, 0 neither)
+ *     link          12, 3, two different elements, form (0 fixed, 1 open switch, 2 closed switch), cost (0 for fixed, else 1 to 65535)
+ *     end            4, 4
+ *     plan head      6, 5, steps (0 to 255)
+ *     step           8, 6, link, state wanted (0 open, 1 closed)
+ * A network file is one head, its elements, its links, one end; a plan file one plan head, its steps, one end. Elements and links are numbered
+ * from 0 in file order, steps from 1.
+ *
+ * REFUSALS. What breaks a rule is answered by the first that it breaks, with its number and a place. Rules 1 to 12 are asked of each record in
+ * turn; their place is the offset of the record's first byte.
+ *      1 fewer than four bytes where a record is due      10 more than 255 steps
+ *      2 a kind that may not come here                    11 a step's link does not exist
+ *      3 not the kind's length                            12 a step's state above 1
+ *      4 fewer bytes than the length                      13 a byte behind the last end record (its offset)
+ *      5 elements or links out of range                   14 at the start a part is not a tree (its lowest element)
+ *      6 flags above 3                                    15 at the start two sound sources in a part (the lowest such source)
+ *      7 a link's end that does not exist, or equal ends  16 at the start a fault in a part with a sound source (the lowest such fault)
+ *      8 a form above 2                                   17 at the start an element loaded above its capacity (the lowest such)
+ *      9 a cost that does not suit the form               18 more than 12 operable switches (their count)
+ *                                                         19 the buffer is shorter than the plan file (the length needed)
+ * A sound source is one that is not faulty. */
 #ifndef TAMCHUWE_H
 #define TAMCHUWE_H
 
@@ -20,28 +43,36 @@
 extern "C" {
 #endif
 
-/* Kinds of answers. TAMCHUWE_REFUSED is the same for planner and judge. */
-enum { TAMCHUWE_REFUSED = 0, TAMCHUWE_PLAN = 1, TAMCHUWE_NONE = 2 };
+/* What both answer for an input that breaks a rule. */
+enum { TAMCHUWE_REFUSED = 0 };
+
+/* What tamchuwe_plan answers else. */
+enum { TAMCHUWE_PLAN = 1, TAMCHUWE_NONE = 2 };
+
+/* What tamchuwe_mark answers else. */
 enum { TAMCHUWE_BROKEN = 1, TAMCHUWE_SHORT = 2, TAMCHUWE_VALID = 3 };
 
-/* Lengths that suffice for every input: the planner's plan file (12 steps), the planner's lines, the judge's line. */
-enum { TAMCHUWE_PLAN_FILE = 106, TAMCHUWE_PLAN_TEXT = 4096, TAMCHUWE_MARK_TEXT = 64 };
+/* Lengths in bytes that suffice for every input: by rule 18 a printed plan has at most 12 steps, and no printed number has more than 20 digits. */
+enum { TAMCHUWE_PLAN_FILE_LENGTH = 106, TAMCHUWE_PLAN_TEXT_LENGTH = 512, TAMCHUWE_MARK_TEXT_LENGTH = 64 };
 
 /* Plans the network file `network` of `length` bytes.
  *
  * Answers the kind of reply and fills `values`:
- *     TAMCHUWE_PLAN       steps, cost, fed, dark, lost   (the loads after the plan)
- *     TAMCHUWE_NONE       0, 0, fed, dark, lost          (the loads at the start)
+ *     TAMCHUWE_PLAN       steps, cost, fed, dark, lost
+ *     TAMCHUWE_NONE       0, 0, fed, dark, lost
  *     TAMCHUWE_REFUSED    number, place, 0, 0, 0
+ * `fed` sums the loads of the elements that are live after the plan (at the start for NONE), `dark` those of restorable elements that are not,
+ * `lost` those of elements that can't be restored.
  * With TAMCHUWE_PLAN the plan file, 10 + 8 * steps bytes, fills the front of `buffer`, and later bytes keep their values. Where `buffer`, of `room`
- * bytes, is shorter than that file, the answer is TAMCHUWE_REFUSED with number 19, and the place is the length needed. With every other
- * answer than TAMCHUWE_PLAN `buffer` keeps all its bytes. */
+ * bytes, is shorter than that file, the answer is TAMCHUWE_REFUSED with number 19 and the length needed. With every answer but TAMCHUWE_PLAN
+ * `buffer` keeps all its bytes. */
 uint64_t tamchuwe_plan(const uint8_t *network, size_t length, uint8_t *buffer, size_t room, uint64_t values[5]);
 
-/* The lines that the program `plan` prints for the network file `network` of `length` bytes: PLAN, OPEN, CLOSE and LOAD, or NONE and LOAD, or REFUSED.
+/* The lines that the program `plan` prints for the network file `network` of `length` bytes: PLAN, OPEN, CLOSE and LOAD; or NONE and LOAD; or REFUSED.
  *
- * Answers their length in bytes, the last line feed included; no 0 byte follows. Where `out`, of `room` bytes, is long enough, they fill its front, and
- * later bytes keep their values; where it is not, it keeps all its bytes. */
+ * Answers their length in bytes, the last line feed included; no 0 byte follows. Where `out`, of `room` bytes, is long enough, they fill its front,
+ * and later bytes keep their values; where it is not, it keeps all its bytes. To ask for the length alone, pass any pointer that is not null and
+ * room 0. */
 size_t tamchuwe_plan_text(const uint8_t *network, size_t length, uint8_t *out, size_t room);
 
 /* Marks the plan file that stands directly behind the network file in `input` of `length` bytes.
@@ -49,7 +80,7 @@ size_t tamchuwe_plan_text(const uint8_t *network, size_t length, uint8_t *out, s
  * Answers the kind of mark and fills `values`:
  *     TAMCHUWE_VALID      cost, excess over the cheapest valid plan
  *     TAMCHUWE_SHORT      the lowest restorable element still dark, 0
- *     TAMCHUWE_BROKEN     the first bad step (from 1 on), reason (1 not an operable switch, 2 already so, 3 unsafe afterwards)
+ *     TAMCHUWE_BROKEN     the first bad step, the lowest reason that fits (1 not an operable switch, 2 already so, 3 unsafe afterwards)
  *     TAMCHUWE_REFUSED    number, place */
 uint64_t tamchuwe_mark(const uint8_t *input, size_t length, uint64_t values[2]);
 

@@ -2,7 +2,7 @@
 """trials_model.py [-v]: what crates/trials prints, derived apart (about 25 seconds).
 
 The draws are those of crates/trials; feeding, safety, the cheapest plan and the marks are written again from document 01, with other means than
-crates/enumeration (sets of elements, a priority queue over configurations). It runs neither planner nor judge, so its last line counts only networks
+crates/surveys and crates/enumeration (sets of elements, a priority queue over configurations). It runs neither planner nor judge, so its last line counts only networks
 where the printed plan is not the cheapest of all sequences. -v adds how varied the networks are.
 """
 import heapq

@@ -46,13 +46,21 @@ fn compare(input: &[u8], room: usize, counts: &mut Counts) -> Result<(), Differe
     same_text("the planner's lines", input, library::plan_text, &plan_text)?;
     same_text("the judge's line", input, library::mark_text, &mark_text)?;
     let reply = independent::plan(input);
-    let needed = independent::plan_file(input).map_or(0, |file| file.len());
+    let needed = file_length(&reply);
     for room in [needed + MORE, needed, needed.saturating_sub(1), room] {
         same_reply(input, &reply, room)?;
     }
     same("the mark", library::mark(input), mark_values(independent::mark(input)))?;
     counts.add(&plan_text, &mark_text);
     Ok(())
+}
+
+/// The length of the plan file, 0 where there is no plan.
+fn file_length(reply: &Reply) -> usize {
+    match reply {
+        Reply::Plan(plan, _) => plan.file().len(),
+        _ => 0,
+    }
 }
 
 fn same<T: PartialEq + Debug>(what: &str, proved: T, other: T) -> Result<(), Difference> {

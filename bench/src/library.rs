@@ -1,4 +1,4 @@
-//! The proved functions of the static library.
+//! The proved functions of the static library. `include/tamchuwe.h` says what they answer and write.
 
 extern "C" {
     fn tamchuwe_plan(network: *const u8, length: usize, buffer: *mut u8, room: usize, values: *mut [u64; 5]) -> u64;
@@ -7,10 +7,12 @@ extern "C" {
     fn tamchuwe_mark_text(input: *const u8, length: usize, out: *mut u8, room: usize) -> usize;
 }
 
-/// The reply's kind (0 refused, 1 plan, 2 none) and its values: number and place; steps, cost, fed, dark and lost; 0, 0, fed, dark and lost.
-/// A plan's file goes into the buffer.
+/// What values hold before a call: a number that no reply has, so that one left unwritten shows.
+const UNWRITTEN: u64 = u64::MAX;
+
+/// The reply's kind and its values; a plan's file goes into the buffer.
 pub fn plan(network: &[u8], buffer: &mut [u8]) -> (u64, [u64; 5]) {
-    let mut values = [0; 5];
+    let mut values = [UNWRITTEN; 5];
     let kind = unsafe { tamchuwe_plan(network.as_ptr(), network.len(), buffer.as_mut_ptr(), buffer.len(), &mut values) };
     (kind, values)
 }
@@ -20,9 +22,9 @@ pub fn plan_text(network: &[u8], out: &mut [u8]) -> usize {
     unsafe { tamchuwe_plan_text(network.as_ptr(), network.len(), out.as_mut_ptr(), out.len()) }
 }
 
-/// The mark's kind (0 refused, 1 broken, 2 short, 3 valid) and its values: number and place; step and reason; element and 0; cost and excess.
+/// The mark's kind and its values.
 pub fn mark(input: &[u8]) -> (u64, [u64; 2]) {
-    let mut values = [0; 2];
+    let mut values = [UNWRITTEN; 2];
     let kind = unsafe { tamchuwe_mark(input.as_ptr(), input.len(), &mut values) };
     (kind, values)
 }

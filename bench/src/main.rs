@@ -1,14 +1,16 @@
-//! The proved planner and judge, from the static library, beside independent ones: equal replies, and the ratio of their times.
-//!
-//! `bench` compares and times; `bench differential [SEED [COUNT]]`, `bench time [SEED]`, `bench frames COUNT DIR` do one thing.
+//! The proved planner and judge, from the static library, beside independent ones: equal replies, the ratio of their times, the stack they need.
 mod differential;
 mod library;
+mod stack;
 mod timing;
 
+use std::path::Path;
 use std::process::ExitCode;
 
 const SEED: u64 = 2026;
 const COUNT: usize = 250_000;
+const EXAMPLES: &str = concat!(env!("CARGO_MANIFEST_DIR"), "/../examples");
+const USAGE: &str = "bench differential [SEED [COUNT]] | time [SEED] | stack [EXAMPLES]";
 
 fn number(arguments: &[String], at: usize, usual: u64) -> Result<u64, String> {
     match arguments.get(at) {
@@ -18,19 +20,15 @@ fn number(arguments: &[String], at: usize, usual: u64) -> Result<u64, String> {
 }
 
 fn run(arguments: &[String]) -> Result<(), String> {
-    let Some((name, rest)) = arguments.split_first() else {
-        differential::run(SEED, COUNT)?;
-        timing::run(SEED);
-        return Ok(());
-    };
+    let (name, rest) = arguments.split_first().ok_or(USAGE)?;
     match name.as_str() {
         "differential" => differential::run(number(rest, 0, SEED)?, number(rest, 1, COUNT as u64)? as usize),
         "time" => {
             timing::run(number(rest, 0, SEED)?);
             Ok(())
         }
-        "frames" => bench::frames::run(rest),
-        _ => Err("bench [differential [SEED [COUNT]] | time [SEED] | frames COUNT DIR]".to_string()),
+        "stack" => stack::run(Path::new(rest.first().map_or(EXAMPLES, String::as_str))),
+        _ => Err(USAGE.to_string()),
     }
 }
 

@@ -1,10 +1,7 @@
 //! Random networks of many shapes.
 use crate::draft::{Draft, CLOSED, FIXED, OPEN};
-use crate::independent;
+use crate::independent::{self, ELEMENTS, LINKS, SWITCHES};
 use crate::random::Random;
-
-pub const ELEMENTS: usize = 64;
-pub const LINKS: usize = 96;
 
 /// A network of one of the shapes below, most of them small.
 pub fn network(r: &mut Random) -> Draft {
@@ -32,7 +29,7 @@ pub fn brief(r: &mut Random) -> Draft {
         74..82 => parallel(r),
         82..91 => overloaded(r),
         91..96 => star_of(r, 3),
-        _ => crowded(r),
+        _ => many_parallel(r),
     }
 }
 
@@ -248,7 +245,7 @@ fn star_of(r: &mut Random, buses: usize) -> Draft {
 }
 
 /// A dark bus with 12 to 15 open switches side by side.
-fn crowded(r: &mut Random) -> Draft {
+fn many_parallel(r: &mut Random) -> Draft {
     let mut draft = Draft::default();
     draft.add_element(0, 9, 1);
     draft.add_element(1, 9, 0);
@@ -262,7 +259,7 @@ fn crowded(r: &mut Random) -> Draft {
 /// A grown network with exactly 12 or 13 operable switches, where that can be had by adding ties and leaving some out.
 fn counted(r: &mut Random) -> Draft {
     let mut draft = grown_small(r);
-    let wanted = r.from(12, 13);
+    let wanted = r.from(SWITCHES, SWITCHES + 1);
     for _ in 0..40 {
         let Ok(start) = independent::start(&draft.file()) else { return draft };
         let waiting: Vec<usize> = independent::bits(start.waiting() as u128).collect();
@@ -320,7 +317,7 @@ pub fn large(r: &mut Random, kind: Kind) -> Draft {
     }
     limit(&mut draft, kind, sources, *members[groups - 1].last().unwrap());
     let mut ties = 0;
-    while ties < 12 {
+    while ties < SWITCHES {
         let g = sources + r.below(dark);
         let h = if r.one_in(3) { r.below(sources) } else { r.below(groups) };
         if g != h {

@@ -9,6 +9,7 @@ pub const MOST: usize = 255;
 
 /// Steps for a network file; where the network isn't accepted, any steps.
 pub fn steps(r: &mut Random, network: &[u8]) -> Vec<Step> {
+    // the low byte of the head's link count, which is at most 96
     let links = network[6] as usize;
     if r.one_in(12) {
         return anything(r, links);
@@ -41,9 +42,9 @@ fn around(r: &mut Random, accepted: &Accepted, mut steps: Vec<Step>) -> Vec<Step
         60..66 => r.shuffle(&mut steps),
         66..72 => detour(r, accepted, &mut steps),
         72..75 => turned(r, &mut steps),
-        75..86 => steps = wild(r, accepted),
-        86..98 => steps = good(r, accepted, 14),
-        _ => steps = good(r, accepted, MOST),
+        75..86 => steps = safe_or_not(r, accepted),
+        86..98 => steps = good(r, accepted, 14, true),
+        _ => steps = good(r, accepted, MOST, false),
     }
     steps.truncate(MOST);
     steps
@@ -126,7 +127,7 @@ fn detour(r: &mut Random, accepted: &Accepted, steps: &mut Vec<Step>) {
 }
 
 /// Operable switches that aren't yet in the state wanted, safe or not.
-fn wild(r: &mut Random, accepted: &Accepted) -> Vec<Step> {
+fn safe_or_not(r: &mut Random, accepted: &Accepted) -> Vec<Step> {
     let operable: Vec<usize> = independent::bits(accepted.start.operable).collect();
     let mut closed = accepted.network.closed;
     let mut steps = vec![];
@@ -138,8 +139,8 @@ fn wild(r: &mut Random, accepted: &Accepted) -> Vec<Step> {
     steps
 }
 
-/// Good steps drawn one by one, as many as that or some fewer.
-pub fn good(r: &mut Random, accepted: &Accepted, most: usize) -> Vec<Step> {
+/// Good steps drawn one by one, at most that many; `may_stop` says whether they may end once every restorable element is live.
+pub fn good(r: &mut Random, accepted: &Accepted, most: usize, may_stop: bool) -> Vec<Step> {
     let operable: Vec<usize> = independent::bits(accepted.start.operable).collect();
     let mut trial = Trial::new(accepted);
     let mut steps = vec![];
@@ -148,7 +149,7 @@ pub fn good(r: &mut Random, accepted: &Accepted, most: usize) -> Vec<Step> {
         if steps.len() < most && trial.operate(step.0, step.1).is_ok() {
             steps.push(step);
         }
-        if trial.dark() == 0 && r.one_in(4) && most < MOST {
+        if trial.dark() == 0 && r.one_in(4) && may_stop {
             break;
         }
     }

@@ -1,17 +1,18 @@
+//! Random numbers.
+
 /// Xorshift numbers: the same ones from the same seed.
 pub struct Random(u64);
 
+/// The first numbers of seeds that differ in few bits are alike, so they go unused.
+const UNUSED: usize = 20;
+
 impl Random {
     pub fn new(seed: u64) -> Random {
-        Random(seed ^ 88172645463325252).warmed()
-    }
-
-    fn warmed(mut self) -> Random {
-        self.0 = self.0.max(1);
-        (0..20).for_each(|_| {
-            self.below(1);
-        });
-        self
+        let mut random = Random((seed ^ 88172645463325252).max(1));
+        for _ in 0..UNUSED {
+            random.below(1);
+        }
+        random
     }
 
     pub fn below(&mut self, n: usize) -> usize {

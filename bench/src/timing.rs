@@ -1,7 +1,7 @@
 //! The time from an input's bytes to the printed bytes, proved and independent in turns.
 use crate::library;
 use bench::draft::plan_file;
-use bench::independent::{self, Reply};
+use bench::independent::{self, Reply, LINKS, SWITCHES};
 use bench::networks::{self, Kind};
 use bench::plans;
 use bench::random::Random;
@@ -134,7 +134,7 @@ fn largest(r: &mut Random, kind: Kind) -> Vec<u8> {
         let file = draft.file();
         let Ok(accepted) = independent::accept(&file) else { continue };
         let planned = matches!(independent::plan(&file), Reply::Plan(..));
-        if draft.links.len() == 96 && accepted.start.operable.count_ones() == 12 && planned == (kind == Kind::Planned) {
+        if draft.links.len() == LINKS && accepted.start.operable.count_ones() as usize == SWITCHES && planned == (kind == Kind::Planned) {
             return file;
         }
     }
@@ -170,15 +170,17 @@ fn longest(r: &mut Random, network: &[u8]) -> Vec<plans::Step> {
 
 fn any_good(r: &mut Random, network: &[u8]) -> Vec<plans::Step> {
     let accepted = independent::accept(network).expect("an accepted network");
-    let most = r.from(20, 200);
-    plans::good(r, &accepted, most)
+    let mut steps = plans::good(r, &accepted, plans::MOST, false);
+    steps.truncate(r.from(20, 200));
+    assert!(steps.len() >= 20, "so many good steps are always drawn");
+    steps
 }
 
 fn measure_planner(r: &mut Random) -> (Rounds, Rounds) {
     let random = measure("random networks", "plan", PLANNERS, &random_networks(r));
     let element = measure("hardest, no plan, an element too small", "plan", PLANNERS, &hardest(r, Kind::SmallElement));
     let sources = measure("hardest, no plan, sources too small", "plan", PLANNERS, &hardest(r, Kind::SmallSources));
-    measure("large, with a plan", "plan", PLANNERS, &hardest(r, Kind::Planned));
+    measure("hardest, with a plan", "plan", PLANNERS, &hardest(r, Kind::Planned));
     (random, element.and(&sources))
 }
 

@@ -1,6 +1,6 @@
 //! A network that keeps rules 14 to 18, with what planner and judge need of it.
 use super::bits;
-use super::near::Near;
+use super::neighbours::Neighbours;
 use super::network::Network;
 use super::reader::Refusal;
 use super::start::{refuse_lowest, Start};
@@ -11,18 +11,18 @@ pub struct Accepted {
     pub network: Network,
     pub start: Start,
     /// the starting configuration
-    pub near: Near,
+    pub neighbours: Neighbours,
 }
 
 impl Accepted {
     pub fn from(network: Network) -> Result<Accepted, Refusal> {
-        let (start, near) = Start::of(&network)?;
-        refuse_lowest(17, overloaded(&network, &near))?;
+        let (start, neighbours) = Start::of(&network)?;
+        refuse_lowest(17, overloaded(&network, &neighbours))?;
         let count = start.operable.count_ones() as usize;
         if count > SWITCHES {
             return Err(Refusal { rule: 18, place: count as u64 });
         }
-        Ok(Accepted { network, start, near })
+        Ok(Accepted { network, start, neighbours })
     }
 
     pub fn is_operable(&self, link: usize) -> bool {
@@ -30,10 +30,10 @@ impl Accepted {
     }
 }
 
-fn overloaded(network: &Network, near: &Near) -> u64 {
+fn overloaded(network: &Network, neighbours: &Neighbours) -> u64 {
     let mut over = 0;
     for source in bits(network.sound as u128) {
-        near.load_at(network, source, 0, &mut over);
+        neighbours.load_at(network, source, 0, &mut over);
     }
     over
 }

@@ -1,6 +1,6 @@
 //! The judge's mark for a network file with a plan file directly behind it.
 use super::accepted::Accepted;
-use super::near::Near;
+use super::neighbours::Neighbours;
 use super::network::Network;
 use super::reader::{Reader, Refusal};
 use super::search::cheapest;
@@ -49,13 +49,13 @@ fn mark_accepted(accepted: &Accepted, submitted: Submitted) -> Mark {
 pub struct Trial<'a> {
     accepted: &'a Accepted,
     closed: u128,
-    near: Near,
+    neighbours: Neighbours,
     pub cost: u64,
 }
 
 impl<'a> Trial<'a> {
     pub fn new(accepted: &'a Accepted) -> Self {
-        Trial { accepted, closed: accepted.network.closed, near: accepted.near.clone(), cost: 0 }
+        Trial { accepted, closed: accepted.network.closed, neighbours: accepted.neighbours.clone(), cost: 0 }
     }
 
     /// Takes a step, or says by its reason why it is bad and takes none.
@@ -69,7 +69,7 @@ impl<'a> Trial<'a> {
         if state == 1 && !self.may_close(link) {
             return Err(3);
         }
-        self.near.turn(self.accepted.network.ends(link));
+        self.neighbours.turn(self.accepted.network.ends(link));
         self.closed ^= 1 << link;
         self.cost += self.accepted.network.cost[link] as u64;
         Ok(())
@@ -80,28 +80,28 @@ impl<'a> Trial<'a> {
     fn may_close(&mut self, link: usize) -> bool {
         let network = &self.accepted.network;
         let (a, b) = network.ends(link);
-        let part = self.near.part(a);
+        let part = self.neighbours.part(a);
         if part >> b & 1 == 1 {
             return false;
         }
-        let part = part | self.near.part(b);
+        let part = part | self.neighbours.part(b);
         let sources = part & network.sound;
         match sources.count_ones() {
             0 => true,
-            1 => part & network.faulty == 0 && self.would_bear((a, b), sources.trailing_zeros() as usize),
+            1 => part & network.faulty == 0 && self.would_stay_within_capacity((a, b), sources.trailing_zeros() as usize),
             _ => false,
         }
     }
 
-    fn would_bear(&mut self, ends: (usize, usize), source: usize) -> bool {
-        self.near.turn(ends);
-        let bears = self.near.bears(&self.accepted.network, source);
-        self.near.turn(ends);
-        bears
+    fn would_stay_within_capacity(&mut self, ends: (usize, usize), source: usize) -> bool {
+        self.neighbours.turn(ends);
+        let within = self.neighbours.within_capacity(&self.accepted.network, source);
+        self.neighbours.turn(ends);
+        within
     }
 
     /// The restorable elements that are dark now.
     pub fn dark(&self) -> u64 {
-        self.accepted.start.restorable & !self.near.reach(self.accepted.network.sound, u64::MAX)
+        self.accepted.start.restorable & !self.neighbours.reach(self.accepted.network.sound, u64::MAX)
     }
 }

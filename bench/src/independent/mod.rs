@@ -1,8 +1,8 @@
-//! The planner and the judge, written from document 01 alone and unverified: sets as bit masks, and a search that carries its parts along.
+//! The planner and the judge, written from document 01 and unverified (docs/DECISIONS.md, 58): sets as bit masks, and a search that carries its parts along.
 mod accepted;
 mod bits;
 mod judge;
-mod near;
+mod neighbours;
 mod network;
 mod planner;
 mod reader;
@@ -11,9 +11,10 @@ mod start;
 mod submitted;
 mod text;
 
-pub use accepted::Accepted;
+pub use accepted::{Accepted, SWITCHES};
 pub use bits::bits;
 pub use judge::{mark, Mark, Trial};
+pub use network::{ELEMENTS, LINKS};
 pub use planner::{plan, Plan, Reply};
 pub use reader::Refusal;
 pub use start::Start;
@@ -28,14 +29,6 @@ pub fn plan_text(input: &[u8], out: &mut Vec<u8>) {
 /// The judging program's printed line behind what `out` holds.
 pub fn mark_text(input: &[u8], out: &mut Vec<u8>) {
     text::mark(out, &mark(input));
-}
-
-/// The plan file, or `None` where there is no plan.
-pub fn plan_file(input: &[u8]) -> Option<Vec<u8>> {
-    match plan(input) {
-        Reply::Plan(plan, _) => Some(plan.file()),
-        _ => None,
-    }
 }
 
 /// A network file's network that keeps rules 1 to 13.

@@ -5,7 +5,7 @@ pub const ELEMENTS: usize = 64;
 pub const LINKS: usize = 96;
 
 #[derive(Clone, Copy, Default)]
-pub struct Rated {
+pub struct Ratings {
     pub load: u16,
     pub capacity: u16,
 }
@@ -14,7 +14,7 @@ pub struct Network {
     pub elements: usize,
     pub links: usize,
     /// of each element its own load and its capacity
-    pub rated: [Rated; ELEMENTS],
+    pub ratings: [Ratings; ELEMENTS],
     /// sources that aren't faulty
     pub sound: u64,
     pub faulty: u64,
@@ -46,7 +46,7 @@ impl Network {
         Network {
             elements,
             links,
-            rated: [Rated::default(); ELEMENTS],
+            ratings: [Ratings::default(); ELEMENTS],
             sound: 0,
             faulty: 0,
             ends: [(0, 0); LINKS],
@@ -59,7 +59,7 @@ impl Network {
     fn put_element(&mut self, element: usize, record: Record<3>) -> Result<(), Refusal> {
         let [load, capacity, flags] = record.fields;
         record.demand(6, flags <= 3)?;
-        self.rated[element] = Rated { load, capacity };
+        self.ratings[element] = Ratings { load, capacity };
         self.sound |= ((flags == 1) as u64) << element;
         self.faulty |= ((flags >= 2) as u64) << element;
         Ok(())
@@ -91,6 +91,6 @@ impl Network {
     }
 
     pub fn load_of(&self, elements: u64) -> u64 {
-        super::bits(elements as u128).map(|e| self.rated[e].load as u64).sum()
+        super::bits(elements as u128).map(|e| self.ratings[e].load as u64).sum()
     }
 }

@@ -4,7 +4,7 @@
 //! left out, so each one on the way, which has fewer links closed than the last, is safe too.
 use super::accepted::{Accepted, SWITCHES};
 use super::bits;
-use super::near::Near;
+use super::neighbours::Neighbours;
 use super::network::{Network, ELEMENTS};
 
 const NODES: usize = 2 * SWITCHES;
@@ -32,7 +32,7 @@ struct Joined {
 struct Search<'a> {
     network: &'a Network,
     /// the configuration of the switches decided so far, the others open
-    near: Near,
+    neighbours: Neighbours,
     switches: [Switch; SWITCHES],
     count: usize,
     /// the sources with an operable switch in their part; no other part changes
@@ -43,7 +43,7 @@ struct Search<'a> {
 /// The cost and the switches operated, as links.
 pub fn cheapest(accepted: &Accepted) -> Option<(u64, u128)> {
     let (mut search, joined) = Search::prepare(accepted);
-    search.look(0, joined, 0, 0);
+    search.decide_from(0, joined, 0, 0);
     let (cost, set) = search.best?;
     let operated = bits(accepted.start.operable).enumerate().filter(|&(i, _)| set >> i & 1 == 1);
     Some((cost, operated.fold(0, |links, (_, link)| links | 1 << link)))
@@ -52,22 +52,22 @@ pub fn cheapest(accepted: &Accepted) -> Option<(u64, u128)> {
 impl Search<'_> {
     fn prepare(accepted: &Accepted) -> (Search<'_>, Joined) {
         let (network, start) = (&accepted.network, &accepted.start);
-        let mut near = accepted.near.clone();
-        bits(start.operable & network.closed).for_each(|link| near.turn(network.ends(link)));
+        let mut neighbours = accepted.neighbours.clone();
+        bits(start.operable & network.closed).for_each(|link| neighbours.turn(network.ends(link)));
         let mut nodes = Nodes { of: [u8::MAX; ELEMENTS], parts: [0; NODES], count: 0 };
         let mut switches = [Switch::default(); SWITCHES];
         for (switch, link) in switches.iter_mut().zip(bits(start.operable)) {
             let ends = network.ends(link);
-            let (a, b) = (nodes.node(near.part(ends.0)), nodes.node(near.part(ends.1)));
+            let (a, b) = (nodes.node(neighbours.part(ends.0)), nodes.node(neighbours.part(ends.1)));
             *switch = Switch { a, b, ends, closed: network.closed >> link & 1 == 1, cost: network.cost[link] as u64 };
         }
         let joined = nodes.joined(network, start.restorable);
         let sources = nodes.parts.iter().fold(0, |all, part| all | part & network.sound);
-        (Search { network, near, switches, count: start.operable.count_ones() as usize, sources, best: None }, joined)
+        (Search { network, neighbours, switches, count: start.operable.count_ones() as usize, sources, best: None }, joined)
     }
 
     /// Decides switch `i` and all behind it: operated first, so that of equal costs the first one found comes before the others.
-    fn look(&mut self, i: usize, joined: Joined, set: u16, cost: u64) {
+    fn decide_from(&mut self, i: usize, joined: Joined, set: u16, cost: u64) {
         if self.best.is_some_and(|(least, _)| least <= cost) {
             return;
         }
@@ -81,17 +81,17 @@ impl Search<'_> {
         for operate in [true, false] {
             let (set, cost) = if operate { (set | 1 << i, cost + switch.cost) } else { (set, cost) };
             if switch.closed == operate {
-                self.look(i + 1, joined, set, cost);
+                self.decide_from(i + 1, joined, set, cost);
             } else if let Some(joined) = joined.join(switch.a, switch.b) {
-                self.near.turn(switch.ends);
-                self.look(i + 1, joined, set, cost);
-                self.near.turn(switch.ends);
+                self.neighbours.turn(switch.ends);
+                self.decide_from(i + 1, joined, set, cost);
+                self.neighbours.turn(switch.ends);
             }
         }
     }
 
     fn within_capacity(&self) -> bool {
-        bits(self.sources as u128).all(|source| self.near.bears(self.network, source))
+        bits(self.sources as u128).all(|source| self.neighbours.within_capacity(self.network, source))
     }
 }
 

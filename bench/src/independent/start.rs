@@ -1,6 +1,6 @@
 //! What the starting configuration decides: rules 14 to 16, what is live, restorable and operable.
 use super::bits;
-use super::near::Near;
+use super::neighbours::Neighbours;
 use super::network::Network;
 use super::reader::Refusal;
 
@@ -13,18 +13,19 @@ pub struct Start {
 
 impl Start {
     /// With the starting configuration.
-    pub fn of(network: &Network) -> Result<(Start, Near), Refusal> {
-        let near = Near::over(network, network.closed);
-        refuse_lowest(14, looped(network, &near))?;
-        let crowded = near.parts(network.sound).map(|part| part & network.sound).filter(|sources| sources.count_ones() > 1);
-        refuse_lowest(15, crowded.fold(0, |all, sources| all | sources))?;
-        let live = near.reach(network.sound, u64::MAX);
+    pub fn of(network: &Network) -> Result<(Start, Neighbours), Refusal> {
+        let neighbours = Neighbours::over(network, network.closed);
+        refuse_lowest(14, looped(network, &neighbours))?;
+        let together = neighbours.parts(network.sound).map(|part| part & network.sound).filter(|sources| sources.count_ones() > 1);
+        refuse_lowest(15, together.fold(0, |all, sources| all | sources))?;
+        let live = neighbours.reach(network.sound, u64::MAX);
         refuse_lowest(16, live & network.faulty)?;
-        let restorable = restorable(network);
-        let operable = operable(network, restorable & !live);
-        Ok((Start { live, restorable, operable }, near))
+        let mut start = Start { live, restorable: restorable(network), operable: 0 };
+        start.operable = operable(network, start.waiting());
+        Ok((start, neighbours))
     }
 
+    /// The dark elements that are restorable.
     pub fn waiting(&self) -> u64 {
         self.restorable & !self.live
     }
@@ -39,22 +40,22 @@ pub fn refuse_lowest(rule: u64, elements: u64) -> Result<(), Refusal> {
 }
 
 /// The elements of parts that aren't trees: a tree has one link fewer than elements, and each other part has more.
-fn looped(network: &Network, near: &Near) -> u64 {
-    let parts = near.parts(network.all());
+fn looped(network: &Network, neighbours: &Neighbours) -> u64 {
+    let parts = neighbours.parts(network.all());
     if network.closed.count_ones() as usize + parts.count() == network.elements {
         return 0;
     }
     let links = |part: u64| bits(network.closed).filter(|&l| part >> network.ends[l].0 & 1 == 1).count();
-    let parts = near.parts(network.all());
+    let parts = neighbours.parts(network.all());
     parts.filter(|&part| links(part) >= part.count_ones() as usize).fold(0, |all, part| all | part)
 }
 
 fn restorable(network: &Network) -> u64 {
     let spoiled = match network.faulty {
         0 => 0,
-        faulty => Near::over(network, network.fixed).reach(faulty, u64::MAX),
+        faulty => Neighbours::over(network, network.fixed).reach(faulty, u64::MAX),
     };
-    Near::over(network, network.every_link()).reach(network.sound & !spoiled, !spoiled)
+    Neighbours::over(network, network.every_link()).reach(network.sound & !spoiled, !spoiled)
 }
 
 fn operable(network: &Network, waiting: u64) -> u128 {

@@ -5,17 +5,17 @@ use super::bits;
 use super::network::{Network, ELEMENTS};
 
 #[derive(Clone)]
-pub struct Near([u64; ELEMENTS]);
+pub struct Neighbours([u64; ELEMENTS]);
 
-impl Near {
-    pub fn over(network: &Network, links: u128) -> Near {
-        let mut near = Near([0; ELEMENTS]);
+impl Neighbours {
+    pub fn over(network: &Network, links: u128) -> Neighbours {
+        let mut neighbours = Neighbours([0; ELEMENTS]);
         for link in bits(links) {
             let (a, b) = network.ends(link);
-            near.0[a] |= 1 << b;
-            near.0[b] |= 1 << a;
+            neighbours.0[a] |= 1 << b;
+            neighbours.0[b] |= 1 << a;
         }
-        near
+        neighbours
     }
 
     /// Closes a link that is open, or opens one that is closed.
@@ -56,32 +56,32 @@ impl Near {
     }
 
     /// Whether no load exceeds its capacity in the tree of this source.
-    pub fn bears(&self, network: &Network, source: usize) -> bool {
+    pub fn within_capacity(&self, network: &Network, source: usize) -> bool {
         self.load_within(network, source, 0).is_some()
     }
 
     /// The load at an element of a tree, seen from its neighbour `from`; `None` once a load exceeds its capacity.
     fn load_within(&self, network: &Network, element: usize, from: u64) -> Option<u64> {
-        let rated = network.rated[element];
-        let mut sum = rated.load as u64;
+        let ratings = network.ratings[element];
+        let mut sum = ratings.load as u64;
         let mut next = self.0[element] & !from;
         while next != 0 {
             sum += self.load_within(network, next.trailing_zeros() as usize, 1 << element)?;
             next &= next - 1;
         }
-        (sum <= rated.capacity as u64).then_some(sum)
+        (sum <= ratings.capacity as u64).then_some(sum)
     }
 
     /// The load at an element of a tree; the overloaded ones behind it go into a set.
     pub fn load_at(&self, network: &Network, element: usize, from: u64, over: &mut u64) -> u64 {
-        let rated = network.rated[element];
-        let mut sum = rated.load as u64;
+        let ratings = network.ratings[element];
+        let mut sum = ratings.load as u64;
         let mut next = self.0[element] & !from;
         while next != 0 {
             sum += self.load_at(network, next.trailing_zeros() as usize, 1 << element, over);
             next &= next - 1;
         }
-        *over |= ((sum > rated.capacity as u64) as u64) << element;
+        *over |= ((sum > ratings.capacity as u64) as u64) << element;
         sum
     }
 }
