@@ -63,3 +63,12 @@ module _ (s : List ℕ) (bytes : (i : ℕ) → getD s i 0 < 256) where
   input-starts _ (unread _) e = let z : _≡_ {A = ℕ} 0 1 = cc in absurd (omega arith)
   input-starts _ (refused _ _ _ _) e = let z : _≡_ {A = ℕ} 0 1 = cc in absurd (omega arith)
   input-starts _ (accepted n _ w h) e = (w, accepted-starts n w (sym (answered-network n w Accepted h)))
+
+  -- what was read, for the code that calls `read_accepted`
+  module _ (read : NetworkRead) (is : read ≡ acceptedRead (networkRead (networkInput s))) where
+    pub read-admission : Admission s read
+    read-admission = subst (Admission s) (sym is) input-admission
+
+    -- an accepted file's network is well formed and starts safe
+    pub read-starts : read .answer ≡ Accepted → WellFormed (read .net) × Starts (netOf (read .net))
+    read-starts e = input-starts read read-admission e

@@ -11,7 +11,6 @@ use Rattle.feeding.specs.Parts.{closedIn}
 use Rattle.feeding.specs.Acceptance.{safety}
 use Rattle.feeding.proofs.States.{safety-same}
 use Rattle.feeding.proofs.Views.{formed-net}
-use Rattle.loads.proofs.Same as Same
 use Rattle.sets.specs.Sets.{oneOf}
 use Rattle.restoration.proofs.Sets.{closed-at}
 use Rattle.acceptance.specs.Reading.{startSafety}

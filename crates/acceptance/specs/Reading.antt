@@ -37,3 +37,11 @@ pub data Admission (s : List ℕ) : NetworkRead → Type 0 where
       → Answered (netOf n) (Refused r) → Admission s (record { answer = Refused r; net = emptyNetwork })
   accepted : (n : Network) → networkRead (networkInput s) ≡ record { answer = Accepted; net = n } → WellFormed n
       → Answered (netOf n) Accepted → Admission s (record { answer = Accepted; net = n })
+
+-- the bytes s are a network file that keeps rules 1 to 18, and n is what it states
+abbrev pub Accepts : List ℕ → Network → Type 0
+Accepts s n = Admission s (record { answer = Accepted; net = n })
+
+-- f is the first rule of 1 to 18 that s breaks, with its place
+abbrev pub Refuses : List ℕ → Refusal → Type 0
+Refuses s f = Admission s (record { answer = Refused f; net = emptyNetwork })

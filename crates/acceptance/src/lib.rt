@@ -20,30 +20,13 @@ fn start_safety(net: Network) -> Answer
     requires { ⌜ WellFormed net ⌝ }
     ensures { λ r. ⌜ r ≡ startSafety net ⌝ }
 {
-    let load = net.load;
-    let capacity = net.capacity;
-    let flags = net.flags;
     let from = net.from;
     let to = net.to;
     let form = net.form;
-    let own = own_ends(&from, &to, net.links);
-    let head = own.head;
-    let next = own.next;
-    let far = own.far;
+    let all: [u8; 96] = [1; 96];
+    let own = own_ends(&from, &to, &all, net.links);
     let closed = members_of(&form, 0, 2, net.links);
-    check(
-        &load,
-        &capacity,
-        &flags,
-        &from,
-        &to,
-        &head,
-        &next,
-        &far,
-        &closed,
-        net.elements,
-        net.links,
-    )
+    check(net, own, &closed)
 }
 
 // Rule 18.

@@ -20,27 +20,26 @@ use Rattle.network_file.proofs.Sizes.{network-input-size}
 use Rattle.network_file.proofs.Followed.{network-followed}
 use Rattle.plan_file.specs.declared.plan.Plan.{Plan}
 use Rattle.plan_file.specs.Accepted.{WellFormedPlan}
-use Rattle.plan_file.specs.Inputs.{bothInput, bothRead}
 use Rattle.plan_file.proofs.Accepted.{plan-well-formed as read-well-formed}
-use Rattle.plan_file.proofs.Sizes.{both-size}
+use Rattle.judge_input.specs.Inputs.{planBehind, bothInput, bothRead}
+use Rattle.judge_input.proofs.Sizes.{both-size}
 use Rattle.plan_writer.specs.Writing.{planBytes, planLength}
-use Rattle.plan_writer.proofs.RoundTrip.{SameSteps, firstSteps, first-same, judge-reads}
+use Rattle.plan_writer.proofs.RoundTrip.{SameSteps, firstSteps, first-same, round-trip-input}
 use Rattle.feeding.specs.Acceptance.{Answered}
 use Rattle.feeding.specs.Networks.{netOf, gridOf}
 use Rattle.feeding.specs.Plans.{Step, printedForm}
 use Rattle.feeding.proofs.Views.{formed-net}
-use Rattle.acceptance.specs.Reading.{Admission}
+use Rattle.acceptance.specs.Reading.{Admission, Accepts}
 use Rattle.acceptance.specs.Reading as Reading
 use Rattle.acceptance.proofs.Promises.{admission-only, input-starts}
 use Rattle.planning.specs.Choosing.{Choice, nothing, chosen, planned}
 use Rattle.printed.specs.Printing.{stepsTo, stepsOf}
 use Rattle.printed.proofs.Steps.{plan-well-formed, printed-length, printed-below}
-use Rattle.planner.specs.declared.Planned.{Planned}
-use Rattle.planner.specs.declared.Reply.the-variants as Reply·
-use Rattle.planner.specs.declared.Outcome.{Outcome}
-use Rattle.planner.specs.Replies.{plannedBy, unplanned, outcomeFrom, outcomeOf, outcomeAnswered, outcomeRead, outcome}
-use Rattle.planner.specs.Promises.{Accepts}
-use Rattle.planner.proofs.Promises.{outcome-kept}
+use Rattle.outcomes.specs.declared.Planned.{Planned}
+use Rattle.outcomes.specs.declared.Reply.the-variants as Reply·
+use Rattle.outcomes.specs.declared.Outcome.{Outcome}
+use Rattle.outcomes.specs.Outcomes.{plannedBy, unplanned, outcomeFrom, outcomeOf, outcomeAnswered, outcomeRead, outcome}
+use Rattle.outcomes.proofs.Promises.{outcome-kept}
 use Rattle.marking.specs.declared.Mark.the-variants as Mark·
 use Rattle.marking.specs.Marks.{markOf}
 use Rattle.marking.proofs.Marking.{promised-marked}
@@ -107,10 +106,22 @@ accepted-stated s n a = go _ a refl refl
 
 -- ---- the judge's reading
 
+-- a plan's file behind a network file with so many links, as the judge reads it
+judge-reads :
+    (p : Plan) (links : ℕ) →
+    WellFormedPlan links p →
+    (pre : List ℕ) (stage : Stage) (n : Network) →
+    n .links ≡ links →
+    networkFile (pre ++ planBytes p) ≡ reached (length pre) stage n →
+    bothInput (pre ++ planBytes p) ≡ reached (length pre + planLength p) Over (n, firstSteps p (p .steps))
+unfolding bothInput planBehind
+judge-reads p links formed pre stage n e h =
+    rw (h, e, round-trip-input p links (formed .steps-fit) (formed .link-long) (formed .close-long) (formed .link-in) pre)
+
 module _ (s : List ℕ) (n : Network) (stated : Stated s n) (p : Plan) (formed : WellFormedPlan (n .links) p) where
   both-is : bothInput (s ++ planBytes p) ≡ reached (length s + planLength p) Over (n, firstSteps p (p .steps))
   both-is =
-      judge-reads p (n .links) (formed .steps-fit) (formed .link-long) (formed .close-long) (formed .link-in) s (stated .last) n refl
+      judge-reads p (n .links) formed s (stated .last) n refl
       (network-followed s (planBytes p) (length s) (stated .last) n (stated .read))
 
   submits : Submits (s ++ planBytes p) n (firstSteps p (p .steps))

@@ -1,28 +1,25 @@
--- What the walk away from a source answers, by the definitions of `feeding`: the load, where no element on the way is above its capacity.
+-- What the walk away from a source answers, by the definitions of `feeding`: the load, where no element on the way is above its capacity
+-- and there is room for it.
 -- Assumes nothing.
-use mathlib.Core.Bool.{Bool, true, false}
+use mathlib.Core.Bool.{Bool, true, false, _||_}
 use Prim.Native.Nat.{ℕ}
-use lib.Dec.{leb, ltb}
+use lib.Dec.{ltb}
 use Rattle.feeding.specs.Networks.{Grid}
 use Rattle.feeding.specs.Parts.{Config}
 use Rattle.feeding.specs.Loads.{elementLoad, linkLoad, elementOver, linkOver}
 
--- the answer where an element on the way is above its capacity; loads are lower
+-- the answer where an element on the way is above its capacity, or the load above the room; loads within a capacity are lower
 abbrev pub overloaded : ℕ
 overloaded = 18446744073709551615
 
--- the load, unless something on the way is above its capacity
-abbrev pub withinOr : (over : Bool) (load : ℕ) → ℕ
-withinOr over load = elim over [ true ↦ overloaded | false ↦ load ]
-
--- at one element of this load and capacity
-unfoldable pub loadWithin : (load capacity : ℕ) → ℕ
-loadWithin load capacity = elim (leb load capacity) [ true ↦ load | false ↦ overloaded ]
+-- the load, unless something on the way is above its capacity or the load above the room
+unfoldable pub withinOr : (over : Bool) (load room : ℕ) → ℕ
+withinOr over load room = elim (over || ltb room load) [ true ↦ overloaded | false ↦ load ]
 
 -- from e onward, come to over `via`
-unfoldable pub withinAt : Grid → Config → (depth e via : ℕ) → ℕ
-withinAt g c d e via = withinOr (ltb (elementOver g c d e via) (g .E)) (elementLoad g c d e via)
+unfoldable pub withinAt : Grid → Config → (depth e via room : ℕ) → ℕ
+withinAt g c d e via room = withinOr (ltb (elementOver g c d e via) (g .E)) (elementLoad g c d e via) room
 
 -- over the link l, away from e
-unfoldable pub linkWithin : Grid → Config → (depth l e : ℕ) → ℕ
-linkWithin g c d l e = withinOr (ltb (linkOver g c d l e) (g .E)) (linkLoad g c d l e)
+unfoldable pub linkWithin : Grid → Config → (depth l e room : ℕ) → ℕ
+linkWithin g c d l e room = withinOr (ltb (linkOver g c d l e) (g .E)) (linkLoad g c d l e) room

@@ -1,65 +1,67 @@
 // Whether every live element stays within its capacity: a walk away from each sound source that stops at the first element that does not.
 ghost use mathlib.Core.Path.{_≡_};
 ghost use mathlib.Core.Bool.{not};
-ghost use Prim.Native.Nat.{_<_, _≤_, _^_, _*_, _/_};
+ghost use Prim.Native.Nat.{_<_, _≤_, _*_, _/_, min};
 ghost use lib.Dec.{ltb};
 ghost use Rattle.feeding.specs.Parts.{closedIn};
-ghost use Rattle.feeding.specs.Loads.{elementLoad, linkLoad};
-ghost use Rattle.loads.specs.Walks.{Lent, walkGrid, nearAt, Carries, overPlace};
-ghost use Rattle.capacity.specs.Within.{loadWithin, withinAt, linkWithin};
+ghost use Rattle.loads.specs.Walks.{nearAt, overPlace};
+ghost use Rattle.packing.specs.Packing.{farOf, PackedLent, packedGrid};
+ghost use Rattle.capacity.specs.Within.{withinAt, linkWithin};
 
-// The answer of a walk that meets an element above its capacity; no load is as high.
-pub const OVERLOADED: u64 = 18446744073709551615;
+// The answer of a walk that meets an element above its capacity, or more load than there is room for; no load is as high.
+const OVERLOADED: u64 = 18446744073709551615;
 
-// The load of an element, or OVERLOADED where it is above the capacity.
-fn load_within(load: u64, capacity: u32) -> u64
-    ensures { λ r. ⌜ r ≡ loadWithin load capacity ⌝ }
+// How much load may come to an element of this capacity where there is room for this much.
+fn room_at(capacity: u32, room: u64) -> u64
+    ensures { λ r. ⌜ r ≡ min capacity room ⌝ }
 {
-    if load <= capacity as u64 {
-        return load;
+    let most = capacity as u64;
+    if most < room {
+        return most;
     }
-    OVERLOADED
+    room
 }
 
-// The load at e, come to over the link via, or OVERLOADED where an element from e onward is above its capacity.
-pub fn element_within<'a>(
-    head: &'a [u8; 64],
-    next: &'a [u8; 192],
-    far: &'a [u8; 192],
+// The load at e, come to over the link via, or OVERLOADED where it is above `room` or an element from e onward is above its capacity.
+// No sum is above the room, so a walk stops at the first link that carries too much.
+fn element_within<'a>(
+    chain: &'a [u8; 448],
     closed: &'a [u8; 96],
-    load: &'a [u32; 64],
-    capacity: &'a [u32; 64],
+    rating: &'a [u32; 128],
     elements: usize,
     links: usize,
     e: usize,
     via: usize,
     depth: usize,
+    room: u64,
 ) -> u64
-    requires { ⌜ Lent (now head) (now next) (now far) (now closed) (now load) (now capacity) elements links ⌝ }
+    requires { ⌜ PackedLent (now chain) (now closed) (now rating) elements links ⌝ }
     requires { ⌜ (elements ≤ 64) × (e < elements) ⌝ }
-    requires { ⌜ elementLoad (walkGrid elements links (now far) (now load) (now capacity)) (closedIn (now closed)) depth e via < 2 ^ 63 ⌝ }
-    ensures { λ r. ⌜ r ≡ withinAt (walkGrid elements links (now (far .entry)) (now (load .entry)) (now (capacity .entry))) (closedIn (now (closed .entry))) depth e via ⌝ }
+    ensures { λ r. ⌜ r ≡ withinAt (packedGrid elements links (now (chain .entry)) (now (rating .entry))) (closedIn (now (closed .entry))) depth e via room ⌝ }
 {
-    let mut sum = load[e] as u64;
-    if depth == 0 {
-        return load_within(sum, capacity[e]);
+    let ratings: &[u32] = rating;
+    let most = room_at(ratings[64 + e], room);
+    let mut sum = ratings[e] as u64;
+    if sum > most {
+        return OVERLOADED;
     }
-    let mut j = head[e] as usize;
+    if depth == 0 {
+        return sum;
+    }
+    let mut j = chain[e] as usize;
     while j < 192 {
         let l = j / 2;
         if closed[l] == 1 {
             if l != via {
                 let c = link_within(
-                    head,
-                    next,
-                    far,
+                    chain,
                     closed,
-                    load,
-                    capacity,
+                    rating,
                     elements,
                     links,
                     j,
                     depth - 1,
+                    most - sum,
                 );
                 if c == OVERLOADED {
                     return c;
@@ -67,80 +69,70 @@ pub fn element_within<'a>(
                 sum = sum + c;
             }
         }
-        j = next[j] as usize;
+        j = chain[64 + j] as usize;
     }
-    load_within(sum, capacity[e])
+    sum
 }
 
 // What the link of end j carries away from that end: the load at its far element, or OVERLOADED.
-pub fn link_within<'a>(
-    head: &'a [u8; 64],
-    next: &'a [u8; 192],
-    far: &'a [u8; 192],
+fn link_within<'a>(
+    chain: &'a [u8; 448],
     closed: &'a [u8; 96],
-    load: &'a [u32; 64],
-    capacity: &'a [u32; 64],
+    rating: &'a [u32; 128],
     elements: usize,
     links: usize,
     j: usize,
     depth: usize,
+    room: u64,
 ) -> u64
-    requires { ⌜ Lent (now head) (now next) (now far) (now closed) (now load) (now capacity) elements links ⌝ }
+    requires { ⌜ PackedLent (now chain) (now closed) (now rating) elements links ⌝ }
     requires { ⌜ (elements ≤ 64) × (j < 2 * links) ⌝ }
-    requires { ⌜ linkLoad (walkGrid elements links (now far) (now load) (now capacity)) (closedIn (now closed)) depth (j / 2) (nearAt (now far) j) < 2 ^ 63 ⌝ }
-    ensures { λ r. ⌜ r ≡ linkWithin (walkGrid elements links (now (far .entry)) (now (load .entry)) (now (capacity .entry))) (closedIn (now (closed .entry))) depth (j / 2) (nearAt (now (far .entry)) j) ⌝ }
+    ensures { λ r. ⌜ r ≡ linkWithin (packedGrid elements links (now (chain .entry)) (now (rating .entry))) (closedIn (now (closed .entry))) depth (j / 2) (nearAt (farOf (now (chain .entry))) j) room ⌝ }
 {
     if depth == 0 {
         return 0;
     }
-    let f = far[j] as usize;
+    let f = chain[256 + j] as usize;
     element_within(
-        head,
-        next,
-        far,
+        chain,
         closed,
-        load,
-        capacity,
+        rating,
         elements,
         links,
         f,
         j / 2,
         depth - 1,
+        room,
     )
 }
 
 // Whether the load at every live element is within its capacity: a walk from each sound source.
 pub fn all_within<'a>(
-    head: &'a [u8; 64],
-    next: &'a [u8; 192],
-    far: &'a [u8; 192],
+    chain: &'a [u8; 448],
     closed: &'a [u8; 96],
-    load: &'a [u32; 64],
-    capacity: &'a [u32; 64],
+    rating: &'a [u32; 128],
     sound: &'a [u8; 96],
     elements: usize,
     links: usize,
 ) -> bool
-    requires { ⌜ Lent (now head) (now next) (now far) (now closed) (now load) (now capacity) elements links ⌝ }
+    requires { ⌜ PackedLent (now chain) (now closed) (now rating) elements links ⌝ }
     requires { ⌜ elements ≤ 64 ⌝ }
-    requires { ⌜ Carries (walkGrid elements links (now far) (now load) (now capacity)) (closedIn (now closed)) (now sound) ⌝ }
-    ensures { λ r. ⌜ r ≡ not (ltb (overPlace (walkGrid elements links (now (far .entry)) (now (load .entry)) (now (capacity .entry))) (closedIn (now (closed .entry))) (now (sound .entry))) elements) ⌝ }
+    ensures { λ r. ⌜ r ≡ not (ltb (overPlace (packedGrid elements links (now (chain .entry)) (now (rating .entry))) (closedIn (now (closed .entry))) (now (sound .entry))) elements) ⌝ }
 {
+    let ratings: &[u32] = rating;
     let mut s: usize = 0;
     while s < elements {
         if sound[s] == 1 {
             let c = element_within(
-                head,
-                next,
-                far,
+                chain,
                 closed,
-                load,
-                capacity,
+                rating,
                 elements,
                 links,
                 s,
                 links,
                 2 * elements,
+                ratings[64 + s] as u64,
             );
             if c == OVERLOADED {
                 return false;

@@ -7,12 +7,12 @@
 use case_files::put;
 use case_files::put_times;
 use case_files::put_widest;
+use cheapest_cost::Cheapest;
 use libc::STDIN_FILENO;
 use libc::STDOUT_FILENO;
 use network::refusal;
 use network::refusal::Refusal;
-use planner::Cheapest;
-use planner::Reply;
+use outcomes::Reply;
 use sums::Sums;
 
 // What runs on a case's bytes. Into is the planner with a plan buffer of so many bytes.
@@ -121,7 +121,7 @@ fn run_on(how: Run, bytes: &[u8]) {
     match how {
         Run::Planner => lines(bytes),
         Run::Judge => mark_line(bytes),
-        Run::Cheapest => show_cheapest(planner::cheapest_in(bytes)),
+        Run::Cheapest => show_cheapest(cheapest_cost::cheapest_in(bytes)),
         Run::Into(size) => into(bytes, size),
     }
 }

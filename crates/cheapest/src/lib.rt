@@ -4,6 +4,8 @@ use capacity::all_within;
 use ends::own_ends;
 use network::Network;
 use operable::operable_switches;
+use packing::packed_ends;
+use packing::packed_rating;
 use planning::Best;
 use sets::except;
 use sets::members_of;
@@ -11,13 +13,15 @@ use switches::price_of;
 use switches::switches_of;
 use switches::with_set;
 ghost use mathlib.Core.Path.{_≡_};
-ghost use lib.ListN.{take};
+ghost use lib.ListN.{length, take};
 ghost use Rattle.network_file.specs.Accepted.{WellFormed};
-ghost use Rattle.feeding.specs.Networks.{netOf};
+ghost use Rattle.feeding.specs.Networks.{netOf, at, isIn};
 ghost use Rattle.feeding.specs.Acceptance.{Starts};
 ghost use Rattle.planning.specs.Sets.{none, scan, cheapestSet};
-ghost use Rattle.loads.specs.Walks.{walkGrid};
-ghost use Rattle.cheapest.specs.Scanning.{Scans, priceIn, fitsIn};
+ghost use Rattle.ends.specs.Ends.{ownEnds};
+ghost use Rattle.switches.specs.Switches.{SwitchReach};
+ghost use Rattle.packing.specs.Packing.{packedEnds, packedGrid};
+ghost use Rattle.cheapest.specs.Scanning.{Scans, closableIn, priceIn, fitsIn};
 
 // The first cheapest of the first n sets found, among those whose loads stay within capacity.
 fn cheapest_of<'a>(
@@ -28,17 +32,14 @@ fn cheapest_of<'a>(
     closed: &'a [u8; 16],
     price: &'a [u16; 16],
     count: usize,
-    head: &'a [u8; 64],
-    next: &'a [u8; 192],
-    far: &'a [u8; 192],
-    load: &'a [u32; 64],
-    capacity: &'a [u32; 64],
+    chain: &'a [u8; 448],
+    rating: &'a [u32; 128],
     sound: &'a [u8; 96],
     elements: usize,
     links: usize,
 ) -> Best
-    requires { ⌜ Scans (now found) base (now link) (now closed) (now head) (now next) (now far) (now load) (now capacity) (now sound) n count elements links ⌝ }
-    ensures { λ r. ⌜ r ≡ scan (priceIn (now (price .entry)) count) (fitsIn (walkGrid elements links (now (far .entry)) (now (load .entry)) (now (capacity .entry))) (now (sound .entry)) base (now (link .entry)) (now (closed .entry)) count) (take n (now (found .entry))) none ⌝ }
+    requires { ⌜ Scans base (now link) (now closed) (now chain) (now rating) n count elements links ⌝ }
+    ensures { λ r. ⌜ r ≡ scan (priceIn (now (price .entry)) count) (fitsIn (packedGrid elements links (now (chain .entry)) (now (rating .entry))) (now (sound .entry)) base (now (link .entry)) (now (closed .entry)) count) (take n (now (found .entry))) none ⌝ }
 {
     let sets: &[u16] = found;
     let mut best = Best {
@@ -51,23 +52,27 @@ fn cheapest_of<'a>(
         let cost = price_of(price, count, set);
         if cost < best.cost {
             let states = with_set(base, link, closed, count, set);
-            if all_within(
-                head,
-                next,
-                far,
-                &states,
-                load,
-                capacity,
-                sound,
-                elements,
-                links,
-            ) {
+            if all_within(chain, &states, rating, sound, elements, links) {
                 best = Best { cost, set };
             }
         }
         i += 1;
     }
     best
+}
+
+// The chained ends of the links that a set can leave closed: those in `base`, and the switches.
+fn closable_ends<'a>(net: Network, base: [u8; 96], link: &'a [u8; 16], count: usize) -> [u8; 448]
+    requires { ⌜ WellFormed net ⌝ }
+    requires { ⌜ SwitchReach (now link) count × (length base ≡ 96) ⌝ }
+    ensures { λ r. ⌜ r ≡ packedEnds (ownEnds (at (net .from)) (at (net .to)) (isIn (closableIn base (now (link .entry)) count)) (net .links)) ⌝ }
+{
+    let from = net.from;
+    let to = net.to;
+    let all: [u8; 16] = [1; 16];
+    let closable = with_set(base, link, &all, count, 0);
+    let own = own_ends(&from, &to, &closable, net.links);
+    packed_ends(own)
 }
 
 // The set that document 01 picks, or none.
@@ -80,8 +85,6 @@ pub fn cheapest_set(net: Network) -> Best
     let switches = switches_of(net, &operable);
     let mut found: [u16; 4096] = [0; 4096];
     let n = list_candidates(net, &operable, switches, &mut found);
-    let from = net.from;
-    let to = net.to;
     let flags = net.flags;
     let form = net.form;
     let load = net.load;
@@ -89,13 +92,11 @@ pub fn cheapest_set(net: Network) -> Best
     let start = members_of(&form, 0, 2, net.links);
     let base = except(&start, &operable, net.links);
     let sound = members_of(&flags, 1, 1, net.elements);
-    let own = own_ends(&from, &to, net.links);
-    let head = own.head;
-    let next = own.next;
-    let far = own.far;
     let link = switches.link;
     let closed = switches.closed;
     let price = switches.price;
+    let chain = closable_ends(net, base, &link, switches.count);
+    let rating = packed_rating(&load, &capacity);
     cheapest_of(
         &found,
         n,
@@ -104,11 +105,8 @@ pub fn cheapest_set(net: Network) -> Best
         &closed,
         &price,
         switches.count,
-        &head,
-        &next,
-        &far,
-        &load,
-        &capacity,
+        &chain,
+        &rating,
         &sound,
         net.elements,
         net.links,

@@ -122,8 +122,29 @@ fn clash(a: usize, b: usize) -> bool {
     (a == 1 && b != 0) || (a == 2 && b == 1)
 }
 
-// An element more, of any flags, with a link to an earlier one or none. Where `careless` is 0, no closed link joins what it must not.
-// `part` has each element's part, and `holds` what the part holds.
+// The form of the link that hangs x, which holds `own`, on p: open instead where it would join what it must not and `careless` is 0. Where it is not
+// open, x goes to the part of p. `part` has each element's part, and `holds` what the part holds.
+fn hung(
+    part: &mut [usize; 96],
+    holds: &mut [usize; 96],
+    x: usize,
+    p: usize,
+    own: usize,
+    form: usize,
+    careless: usize,
+) -> usize {
+    let other = at(part, p);
+    if form == 1 || (clash(at(holds, other), own) && careless == 0) {
+        return 1;
+    }
+    put(part, x, other);
+    if own != 0 {
+        put(holds, other, own);
+    }
+    form
+}
+
+// An element more, of any flags, with a link to an earlier one or none.
 fn with_any(
     net: Network,
     seed: &mut usize,
@@ -136,7 +157,7 @@ fn with_any(
     let load = draw(seed, 5);
     let grown = with_element(net, flags, load, 2 + draw(seed, 14));
     let p = draw(seed, x);
-    let mut form = any_form(seed);
+    let form = any_form(seed);
     let cost = 1 + draw(seed, 4);
     let own = if 1 < flags { 2 } else { flags };
     put(part, x, x);
@@ -144,17 +165,13 @@ fn with_any(
     if happens(seed, 1) {
         return grown;
     }
-    let other = at(part, p);
-    if clash(at(holds, other), own) && careless == 0 {
-        form = 1;
-    }
-    if form != 1 {
-        put(part, x, other);
-        if own != 0 {
-            put(holds, other, own);
-        }
-    }
-    with_link(grown, p, x, form, cost)
+    with_link(
+        grown,
+        p,
+        x,
+        hung(part, holds, x, p, own, form, careless),
+        cost,
+    )
 }
 
 // A link more between any two elements; closed only where `careless` is not 0.
@@ -205,36 +222,52 @@ fn with_live(net: Network, seed: &mut usize, shape: Shape) -> Network {
     with_link(with_element(net, 0, load, capacity), p, x, form, cost)
 }
 
-// A dark element more: it hangs on an earlier dark one by a switch, while more are left than only tie, or by a fixed link; or on none.
-fn with_dark(begun: Begun, seed: &mut usize, shape: Shape) -> Begun {
-    let net = begun.net;
-    let left = begun.left;
-    let x = net.elements;
-    let load = draw(seed, shape.load);
-    let flags = if happens(seed, shape.faults) {
-        2 + draw(seed, 2)
-    } else {
-        0
-    };
-    let grown = with_element(net, flags, load, load + draw(seed, shape.room));
+fn dark_flags(seed: &mut usize, faults: usize) -> usize {
+    if happens(seed, faults) {
+        return 2 + draw(seed, 2);
+    }
+    0
+}
+
+// The last element, x, hangs on an earlier dark one by a switch, while more are left than only tie, or by a fixed link; or on none.
+fn with_hung(begun: Begun, seed: &mut usize, shape: Shape, x: usize, flags: usize) -> Begun {
     let cost = 1 + draw(seed, shape.cost);
     let p = drawn_from(seed, shape.live, x);
     let alone = happens(seed, shape.alone);
     let fixed = happens(seed, shape.fixed);
     let form = if happens(seed, 3) { 1 } else { 2 };
+    let left = begun.left;
     if alone || p == x {
-        return Begun { net: grown, left };
+        return begun;
     }
     if left <= shape.kept || (fixed && flags == 0) {
         return Begun {
-            net: with_link(grown, p, x, 0, 0),
+            net: with_link(begun.net, p, x, 0, 0),
             left,
         };
     }
     Begun {
-        net: with_link(grown, p, x, form, cost),
+        net: with_link(begun.net, p, x, form, cost),
         left: left - 1,
     }
+}
+
+// A dark element more.
+fn with_dark(begun: Begun, seed: &mut usize, shape: Shape) -> Begun {
+    let net = begun.net;
+    let load = draw(seed, shape.load);
+    let flags = dark_flags(seed, shape.faults);
+    let grown = with_element(net, flags, load, load + draw(seed, shape.room));
+    with_hung(
+        Begun {
+            net: grown,
+            left: begun.left,
+        },
+        seed,
+        shape,
+        net.elements,
+        flags,
+    )
 }
 
 fn with_feeders(seed: &mut usize, shape: Shape) -> Network {
@@ -319,7 +352,7 @@ fn moved(list: &[usize; 96], n: usize, numbers: &[usize; 96]) -> [usize; 96] {
     other
 }
 
-// The ends of links by the elements' new numbers.
+// Ends of links by the elements' new numbers.
 fn renamed(ends: &[usize; 96], links: usize, numbers: &[usize; 96]) -> [usize; 96] {
     let mut other: [usize; 96] = [0; 96];
     for k in 0..links {
@@ -338,32 +371,59 @@ fn stride(seed: &mut usize) -> usize {
     }
 }
 
+// The elements in the order of their new numbers.
+fn with_elements_moved(net: Network, numbers: &[usize; 96]) -> Network {
+    let old = net.load;
+    let load = moved(&old, net.elements, numbers);
+    let old = net.capacity;
+    let capacity = moved(&old, net.elements, numbers);
+    let old = net.flags;
+    let flags = moved(&old, net.elements, numbers);
+    let mut other = net;
+    other.load = load;
+    other.capacity = capacity;
+    other.flags = flags;
+    other
+}
+
+// The ends of the links by the elements' new numbers.
+fn with_ends_renamed(net: Network, numbers: &[usize; 96]) -> Network {
+    let old = net.from;
+    let from = renamed(&old, net.links, numbers);
+    let old = net.to;
+    let to = renamed(&old, net.links, numbers);
+    let mut other = net;
+    other.from = from;
+    other.to = to;
+    other
+}
+
+// The links in the order of their new numbers.
+fn with_links_moved(net: Network, numbers: &[usize; 96]) -> Network {
+    let old = net.from;
+    let from = moved(&old, net.links, numbers);
+    let old = net.to;
+    let to = moved(&old, net.links, numbers);
+    let old = net.form;
+    let form = moved(&old, net.links, numbers);
+    let old = net.cost;
+    let cost = moved(&old, net.links, numbers);
+    let mut other = net;
+    other.from = from;
+    other.to = to;
+    other.form = form;
+    other.cost = cost;
+    other
+}
+
 // Elements and links in another order.
 fn shuffled(net: Network, seed: &mut usize) -> Network {
-    let e = net.elements;
-    let k = net.links;
-    let first = draw(seed, e);
-    let x = numbers(e, first, stride(seed));
-    let front = draw(seed, k);
-    let y = numbers(k, front, stride(seed));
-    let load = net.load;
-    let capacity = net.capacity;
-    let flags = net.flags;
-    let from = net.from;
-    let to = net.to;
-    let form = net.form;
-    let cost = net.cost;
-    Network {
-        elements: e,
-        links: k,
-        load: moved(&load, e, &x),
-        capacity: moved(&capacity, e, &x),
-        flags: moved(&flags, e, &x),
-        from: moved(&renamed(&from, k, &x), k, &y),
-        to: moved(&renamed(&to, k, &x), k, &y),
-        form: moved(&form, k, &y),
-        cost: moved(&cost, k, &y),
-    }
+    let first = draw(seed, net.elements);
+    let x = numbers(net.elements, first, stride(seed));
+    let front = draw(seed, net.links);
+    let y = numbers(net.links, front, stride(seed));
+    let by_elements = with_ends_renamed(with_elements_moved(net, &x), &x);
+    with_links_moved(by_elements, &y)
 }
 
 // Regions around a few sources that must be split where capacities are small.
@@ -443,19 +503,20 @@ fn capped(n: usize) -> usize {
     65535
 }
 
-// The network of a number, by its shape.
-fn shaped(n: usize, seed: &mut usize) -> Network {
+// A large network, of a number that is 0 or 1 more than a multiple of 50.
+fn large(n: usize, seed: &mut usize) -> Network {
     if n % 100 == 0 {
         return with_twelve(seed, 16);
     }
-    if n % 100 == 50 {
+    if n % 50 == 0 {
         return with_twelve(seed, 0);
     }
-    if n % 50 == 1 {
-        let switches = 13 + draw(seed, 6);
-        let shape = large_shape(seed, 4, switches);
-        return relieved(planned(seed, shape), seed);
-    }
+    let switches = 13 + draw(seed, 6);
+    let shape = large_shape(seed, 4, switches);
+    relieved(planned(seed, shape), seed)
+}
+
+fn small(n: usize, seed: &mut usize) -> Network {
     if n % 3 != 0 {
         let shape = region_shape(seed);
         return relieved(planned(seed, shape), seed);
@@ -465,6 +526,14 @@ fn shaped(n: usize, seed: &mut usize) -> Network {
         return net;
     }
     relieved(net, seed)
+}
+
+// The network of a number, by its shape.
+fn shaped(n: usize, seed: &mut usize) -> Network {
+    if n % 50 < 2 {
+        return large(n, seed);
+    }
+    small(n, seed)
 }
 
 // The network of a number.

@@ -1,15 +1,15 @@
--- The chain of an element's own ends: an end of the chain is at the element, and between one and the next no end is; by how `lowestFrom` steps.
+-- The chain of an element's own ends: an end of the chain is one of them, and between one and the next there is none; by how `lowestFrom` steps.
 -- Assumes nothing.
 use Prim.Native.Nat.{ℕ, suc, _+_, _-_, _*_, _/_, _%_, _≤_, _<_}
 use mathlib.Core.Path.{_≡_, refl, sym, ap, _∙_}
-use mathlib.Core.Bool.{Bool, true, false, _&&_, and-false}
+use mathlib.Core.Bool.{Bool, true, false}
 use lib.Dec.{eqb, ltb}
-use borrow.Author.Tests.{eqb-true, eq-eqb, ne-eqb, ltb-true, ltb-false, lt-ltb, le-ltb}
+use borrow.Author.Tests.{eqb-true, eq-eqb, ne-eqb, ltb-true, ltb-false, lt-ltb}
 use native.Mathlib.Omega.{arith}
 use Rattle.feeding.specs.Below.{lowestFrom}
 use Rattle.feeding.proofs.Below.{and-left, and-right, and-both}
-use Rattle.feeding.proofs.Lows.{lowest-here, lowest-next, lowest-none, lowestFrom-is}
-use Rattle.ends.specs.Ends.{endAt, ownEnd}
+use Rattle.feeding.proofs.Lows.{lowest-here, lowest-next, lowestFrom-is}
+use Rattle.ends.specs.Ends.{endAt, own, ownEnd}
 
 -- ---- the ends of a link
 
@@ -30,73 +30,60 @@ module _ (a b : ℕ → ℕ) where
 
 -- ---- the chain of e
 
--- the end j is one of the first n links', at e
-unfoldable pub own : (a b : ℕ → ℕ) (n e : ℕ) → ℕ → Bool
-own a b n e j = ltb j (2 * n) && eqb (endAt a b j) e
-
-module _ (a b : ℕ → ℕ) (n e : ℕ) where
-  pub own-yes : (j : ℕ) → j < 2 * n → endAt a b j ≡ e → own a b n e j ≡ true
+module _ (a b : ℕ → ℕ) (has : ℕ → Bool) (n e : ℕ) where
+  pub own-yes : (j : ℕ) → j < 2 * n → endAt a b j ≡ e → has (j / 2) ≡ true → own a b has n e j ≡ true
   unfolding own
-  own-yes j h q = and-both (ltb j (2 * n)) _ (lt-ltb j (2 * n) h) (eq-eqb _ e q)
+  own-yes j h q k = and-both (ltb j (2 * n)) _ (lt-ltb j (2 * n) h) (and-both (eqb (endAt a b j) e) _ (eq-eqb _ e q) k)
 
-  pub own-no : (j : ℕ) → (endAt a b j ≡ e → ⊥) → own a b n e j ≡ false
-  unfolding own
-  own-no j h = rw (ne-eqb (endAt a b j) e h) (and-false (ltb j (2 * n)))
-
-  pub own-past : (j : ℕ) → 2 * n ≤ j → own a b n e j ≡ false
-  unfolding own
-  own-past j h = rw (le-ltb j (2 * n) h)
-
-  pub own-below : (j : ℕ) → own a b n e j ≡ true → j < 2 * n
+  pub own-below : (j : ℕ) → own a b has n e j ≡ true → j < 2 * n
   unfolding own
   own-below j h = ltb-true j (2 * n) (and-left (ltb j (2 * n)) _ h)
 
-  pub own-at : (j : ℕ) → own a b n e j ≡ true → endAt a b j ≡ e
+  pub own-at : (j : ℕ) → own a b has n e j ≡ true → endAt a b j ≡ e
   unfolding own
-  own-at j h = eqb-true _ e (and-right (ltb j (2 * n)) _ h)
+  own-at j h = eqb-true _ e (and-left (eqb (endAt a b j) e) _ (and-right (ltb j (2 * n)) _ h))
 
-  pub ownEnd-is : (i : ℕ) → ownEnd a b n e i ≡ lowestFrom (192 - i) i (own a b n e)
-  unfolding ownEnd own
+  pub own-has : (j : ℕ) → own a b has n e j ≡ true → has (j / 2) ≡ true
+  unfolding own
+  own-has j h = and-right (eqb (endAt a b j) e) _ (and-right (ltb j (2 * n)) _ h)
+
+  -- an end that is past the links', at another element or of a link that is not in the set
+  pub own-no : (j : ℕ) → (j < 2 * n → endAt a b j ≡ e → has (j / 2) ≡ true → ⊥) → own a b has n e j ≡ false
+  own-no j h = go (own a b has n e j) refl
+    where
+      go : (t : Bool) → own a b has n e j ≡ t → own a b has n e j ≡ false
+      go true t = absurd (h (own-below j t) (own-at j t) (own-has j t))
+      go false t = t
+
+  ownEnd-is : (i : ℕ) → ownEnd a b has n e i ≡ lowestFrom (192 - i) i (own a b has n e)
+  unfolding ownEnd
   ownEnd-is i = refl
 
   more : (i : ℕ) → i < 192 → 192 - i ≡ suc (192 - suc i)
   more i h = omega arith
 
-  pub ownEnd-in : (i : ℕ) → i < 192 → own a b n e i ≡ true → ownEnd a b n e i ≡ i
-  ownEnd-in i h q = ownEnd-is i ∙ rw (more i h) (lowest-here (192 - suc i) i (own a b n e) q)
+  pub ownEnd-in : (i : ℕ) → i < 192 → own a b has n e i ≡ true → ownEnd a b has n e i ≡ i
+  ownEnd-in i h q = ownEnd-is i ∙ rw (more i h) (lowest-here (192 - suc i) i (own a b has n e) q)
 
-  pub ownEnd-out : (i : ℕ) → i < 192 → own a b n e i ≡ false → ownEnd a b n e i ≡ ownEnd a b n e (suc i)
-  ownEnd-out i h q = ownEnd-is i ∙ rw (more i h) (lowest-next (192 - suc i) i (own a b n e) q) ∙ sym (ownEnd-is (suc i))
+  pub ownEnd-out : (i : ℕ) → i < 192 → own a b has n e i ≡ false → ownEnd a b has n e i ≡ ownEnd a b has n e (suc i)
+  ownEnd-out i h q = ownEnd-is i ∙ rw (more i h) (lowest-next (192 - suc i) i (own a b has n e) q) ∙ sym (ownEnd-is (suc i))
 
-  pub ownEnd-stop : ownEnd a b n e 192 ≡ 192
-  ownEnd-stop = ownEnd-is 192 ∙ lowest-none 192 (own a b n e)
+  pub ownEnd-le : (i : ℕ) → i ≤ 192 → ownEnd a b has n e i ≤ 192
+  ownEnd-le i h = omega (arith, ownEnd-is i, lowestFrom-is (192 - i) i (own a b has n e) .at-most)
 
-  pub ownEnd-le : (i : ℕ) → i ≤ 192 → ownEnd a b n e i ≤ 192
-  ownEnd-le i h = omega (arith, ownEnd-is i, lowestFrom-is (192 - i) i (own a b n e) .at-most)
+  pub ownEnd-ge : (i : ℕ) → i ≤ ownEnd a b has n e i
+  ownEnd-ge i = omega (arith, ownEnd-is i, lowestFrom-is (192 - i) i (own a b has n e) .at-least)
 
-  pub ownEnd-ge : (i : ℕ) → i ≤ ownEnd a b n e i
-  ownEnd-ge i = omega (arith, ownEnd-is i, lowestFrom-is (192 - i) i (own a b n e) .at-least)
+  pub ownEnd-has : (i : ℕ) → i ≤ 192 → ownEnd a b has n e i < 192 → own a b has n e (ownEnd a b has n e i) ≡ true
+  ownEnd-has i h k = ap (own a b has n e) (ownEnd-is i) ∙ lowestFrom-is (192 - i) i (own a b has n e) .has (omega (arith, ownEnd-is i))
 
-  pub ownEnd-has : (i : ℕ) → i ≤ 192 → ownEnd a b n e i < 192 → own a b n e (ownEnd a b n e i) ≡ true
-  ownEnd-has i h k = ap (own a b n e) (ownEnd-is i) ∙ lowestFrom-is (192 - i) i (own a b n e) .has (omega (arith, ownEnd-is i))
-
-  pub ownEnd-none : (i k : ℕ) → i ≤ k → k < ownEnd a b n e i → own a b n e k ≡ false
-  ownEnd-none i k h q = lowestFrom-is (192 - i) i (own a b n e) .none k h (omega (arith, ownEnd-is i))
+  pub ownEnd-none : (i k : ℕ) → i ≤ k → k < ownEnd a b has n e i → own a b has n e k ≡ false
+  ownEnd-none i k h q = lowestFrom-is (192 - i) i (own a b has n e) .none k h (omega (arith, ownEnd-is i))
 
   -- past the ends there is none more
-  pub ownEnd-past : (i : ℕ) → 2 * n ≤ i → i ≤ 192 → ownEnd a b n e i ≡ 192
-  ownEnd-past i h k = go (ltb (ownEnd a b n e i) 192) refl
+  pub ownEnd-past : (i : ℕ) → 2 * n ≤ i → i ≤ 192 → ownEnd a b has n e i ≡ 192
+  ownEnd-past i h k = go (ltb (ownEnd a b has n e i) 192) refl
     where
-      go : (t : Bool) → ltb (ownEnd a b n e i) 192 ≡ t → ownEnd a b n e i ≡ 192
-      go true t = absurd (omega (arith, own-below (ownEnd a b n e i) (ownEnd-has i k (ltb-true (ownEnd a b n e i) 192 t)), ownEnd-ge i))
-      go false t = omega (arith, ownEnd-le i k, ltb-false (ownEnd a b n e i) 192 t)
-
-  -- the chain's end from i on is its own
-  pub ownEnd-twice : (i : ℕ) → i ≤ 192 → ownEnd a b n e (ownEnd a b n e i) ≡ ownEnd a b n e i
-  ownEnd-twice i k = go (ltb (ownEnd a b n e i) 192) refl
-    where
-      go : (t : Bool) → ltb (ownEnd a b n e i) 192 ≡ t → ownEnd a b n e (ownEnd a b n e i) ≡ ownEnd a b n e i
-      go true t = ownEnd-in _ (ltb-true (ownEnd a b n e i) 192 t) (ownEnd-has i k (ltb-true (ownEnd a b n e i) 192 t))
-      go false t =
-          let q : ownEnd a b n e i ≡ 192 = omega (arith, ownEnd-le i k, ltb-false (ownEnd a b n e i) 192 t) in
-          ap (ownEnd a b n e) q ∙ ownEnd-stop ∙ sym q
+      go : (t : Bool) → ltb (ownEnd a b has n e i) 192 ≡ t → ownEnd a b has n e i ≡ 192
+      go true t = absurd (omega (arith, own-below (ownEnd a b has n e i) (ownEnd-has i k (ltb-true (ownEnd a b has n e i) 192 t)), ownEnd-ge i))
+      go false t = omega (arith, ownEnd-le i k, ltb-false (ownEnd a b has n e i) 192 t)

@@ -52,16 +52,11 @@ pub fn examine(net: Network, operable: &[u8], plan: Plan) -> Examined
     requires { ⌜ WellFormedPlan (net .links) plan ⌝ }
     ensures { λ r. ⌜ r ≡ stepsExamined (netOf net) (isIn (now (operable .entry))) (netOf net .startClosed) 1 (stepsOf plan) ⌝ }
 {
-    let load = net.load;
-    let capacity = net.capacity;
-    let flags = net.flags;
     let from = net.from;
     let to = net.to;
     let form = net.form;
-    let own = own_ends(&from, &to, net.links);
-    let head = own.head;
-    let next = own.next;
-    let far = own.far;
+    let all: [u8; 96] = [1; 96];
+    let own = own_ends(&from, &to, &all, net.links);
     let mut closed = members_of(&form, 0, 2, net.links);
     let count = plan.steps as usize;
     let mut i: usize = 0;
@@ -70,19 +65,7 @@ pub fn examine(net: Network, operable: &[u8], plan: Plan) -> Examined
         let want = state_of(plan.close[i]);
         let state = closed[link];
         closed[link] = want;
-        let answer = check(
-            &load,
-            &capacity,
-            &flags,
-            &from,
-            &to,
-            &head,
-            &next,
-            &far,
-            &closed,
-            net.elements,
-            net.links,
-        );
+        let answer = check(net, own, &closed);
         let found = examine_step(i + 1, operable[link], state, want, answer);
         let Examined::AllGood = found else {
             return found;

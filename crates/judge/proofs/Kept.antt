@@ -12,9 +12,9 @@ use Rattle.network_file.specs.declared.Answer.the-variants.{Accepted, Refused}
 use Rattle.network_file.specs.Accepted.{WellFormed}
 use Rattle.network_file.specs.Runs.{Outcome}
 use Rattle.plan_file.specs.declared.plan.Plan.{Plan}
-use Rattle.plan_file.specs.declared.BothRead.{BothRead}
-use Rattle.plan_file.specs.Inputs.{bothInput, bothRead}
-use Rattle.plan_file.proofs.Decide.{both-decided}
+use Rattle.judge_input.specs.declared.BothRead.{BothRead}
+use Rattle.judge_input.specs.Inputs.{bothInput, bothRead}
+use Rattle.judge_input.proofs.Decide.{both-decided}
 use Rattle.feeding.specs.Networks.{netOf}
 use Rattle.feeding.specs.Acceptance.{Answered, Starts, answerTo}
 use Rattle.feeding.specs.Plans.{ValidPlan}

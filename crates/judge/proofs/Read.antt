@@ -11,11 +11,11 @@ use Rattle.network_file.specs.Accepted.{WellFormed}
 use Rattle.network_file.specs.Runs.{Outcome, refused, reached}
 use Rattle.network_file.proofs.Accepted.{network-well-formed}
 use Rattle.plan_file.specs.declared.plan.Plan.{Plan}
-use Rattle.plan_file.specs.declared.BothRead.{BothRead}
+use Rattle.judge_input.specs.declared.BothRead.{BothRead}
 use Rattle.plan_file.specs.Accepted.{WellFormedPlan}
-use Rattle.plan_file.specs.Inputs.{bothInput, bothRead}
+use Rattle.judge_input.specs.Inputs.{bothInput, bothRead}
 use Rattle.plan_file.proofs.Accepted.{plan-well-formed}
-use Rattle.plan_file.proofs.Sizes.{both-size}
+use Rattle.judge_input.proofs.Sizes.{both-size}
 
 -- the network is well formed, and so is the plan in it
 pub record BothFormed (r : BothRead) : Type 0 where

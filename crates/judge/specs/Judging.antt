@@ -9,9 +9,9 @@ use Rattle.network_file.specs.declared.Answer.{Answer}
 use Rattle.network_file.specs.declared.Answer.the-variants.{Accepted, Refused}
 use Rattle.network_file.specs.Accepted.{WellFormed}
 use Rattle.plan_file.specs.declared.plan.Plan.{Plan}
-use Rattle.plan_file.specs.declared.BothRead.{BothRead}
+use Rattle.judge_input.specs.declared.BothRead.{BothRead}
 use Rattle.plan_file.specs.Accepted.{WellFormedPlan}
-use Rattle.plan_file.specs.Inputs.{bothInput, bothRead}
+use Rattle.judge_input.specs.Inputs.{bothInput, bothRead}
 use Rattle.feeding.specs.Networks.{netOf}
 use Rattle.feeding.specs.Acceptance.{Answered, answerTo}
 use Rattle.printed.specs.Printing.{stepsOf}

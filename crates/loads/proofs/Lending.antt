@@ -1,7 +1,7 @@
 -- The turns of `element_load` and `link_load` over the lent lists, by the walk over an element's own ends.
 -- Assumes nothing.
 use Prim.Native.Nat.{ℕ, suc, _+_, _*_, _/_, _%_, _≤_, _<_, min}
-use mathlib.Core.Path.{_≡_, refl, sym, ap, _∙_}
+use mathlib.Core.Path.{_≡_, refl, sym, ap, subst, _∙_}
 use mathlib.Core.Bool.{Bool, true, false}
 use mathlib.Core.List.{List}
 use lib.Dec.{eqb}
@@ -10,11 +10,10 @@ use native.Mathlib.Omega.{arith}
 use Rattle.feeding.specs.Networks.{Grid, Formed, at}
 use Rattle.feeding.specs.Parts.{Config, closedIn, far}
 use Rattle.feeding.specs.Loads.{elementLoad, linkLoad, elementOver, linkOver}
-use Rattle.ends.specs.Ends.{ownEnd}
-use Rattle.loads.specs.Walks.{endsA, endsB, nearAt, walkGrid, Lent, lowerOver, elementCarried, linkCarried}
+use Rattle.loads.specs.Walks.{endsA, endsB, nearAt, walkGrid, Skips, Lent, lowerOver, elementCarried, linkCarried}
 use Rattle.loads.specs.declared.Carried.{Carried}
-use Rattle.ends.proofs.Chains.{end-even, end-odd, ownEnd-ge}
-use Rattle.loads.proofs.Rounds.{Walked, walked-start, walked-below, walked-near, walked-on, walked-open, walked-via}
+use Rattle.ends.proofs.Chains.{end-even, end-odd}
+use Rattle.loads.proofs.Rounds.{Walked, walked-start, walked-on, walked-open, walked-via}
 use Rattle.loads.proofs.Rounds.{walked-room, walked-done, element-none, link-none, link-more, link-load}
 
 -- what the two answers hold
@@ -64,19 +63,17 @@ module _ (head next far closed load capacity : List ℕ) (E K : ℕ) (lent : Len
   module _ (sum over j : ℕ) (w : Walked (walkGrid E K far load capacity) (closedIn closed) d e via sum over j) (k : j < 192) where
     pub turn-below : j < 2 * K
     unfolding walkGrid
-    turn-below = walked-below (walkGrid E K far load capacity) (lent-formed head next far closed load capacity E K lent)
-        (closedIn closed) d e via sum over j w k
+    turn-below = w .below k
 
     pub turn-near : nearAt far j ≡ e
     unfolding walkGrid
-    turn-near = walked-near (walkGrid E K far load capacity) (lent-formed head next far closed load capacity E K lent)
-        (closedIn closed) d e via sum over j w k
+    turn-near = w .near k
 
-    turn-next : at next j ≡ ownEnd (endsA far) (endsB far) K e (suc j)
-    turn-next = lent .nexts j turn-below ∙ ap (λ z. ownEnd (endsA far) (endsB far) K z (suc j)) turn-near
+    turn-next : Skips (endsA far) (endsB far) (closedIn closed) K e (suc j) (at next j)
+    turn-next = subst (λ z. Skips (endsA far) (endsB far) (closedIn closed) K z (suc j) (at next j)) turn-near (lent .nexts j turn-below)
 
     pub turn-later : j < at next j
-    turn-later = omega (arith, turn-next, ownEnd-ge (endsA far) (endsB far) K e (suc j))
+    turn-later = omega (arith, turn-next .at-least)
 
     pub turn-open : (sum′ over′ : ℕ) → (at closed (j / 2) ≡ 1 → ⊥) → sum′ ≡ sum → over′ ≡ over
         → Walked (walkGrid E K far load capacity) (closedIn closed) d e via sum′ over′ (at next j)

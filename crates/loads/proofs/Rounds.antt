@@ -1,8 +1,8 @@
--- A walk over an element's own ends adds up what its links carry: between own ends nothing is added, and a link that leads on has one own end.
+-- A walk over an element's own ends adds up what its links carry: the ends that are skipped add nothing, and a link that leads on has one own end.
 -- Assumes nothing.
 use Prim.Native.Nat.{ℕ, zero, suc, _+_, _*_, _/_, _≤_, _<_, min}
-use mathlib.Core.Path.{_≡_, refl, sym, ap, _∙_, subst}
-use mathlib.Core.Bool.{Bool, true, false, not, _&&_, _||_, and-false}
+use mathlib.Core.Path.{_≡_, refl, sym, ap, _∙_}
+use mathlib.Core.Bool.{Bool, true, false, not, _&&_, _||_, and-false, false≢true}
 use lib.Dec.{eqb, leb}
 use borrow.Author.Tests.{eqb-true, eq-eqb, ne-eqb, lt-ltb, le-leb, lt-leb}
 use native.Mathlib.Omega.{arith}
@@ -14,10 +14,9 @@ use Rattle.feeding.proofs.Below.{and-both, orElse}
 use Rattle.feeding.proofs.Labels.{far-lt}
 use Rattle.feeding.proofs.Lows.{leastTo-no, leastTo-more, leastTo-top, leastTo-gap, leastTo-pairs}
 use Rattle.feeding.proofs.Sums.{sumTo-no, sumTo-more, sumTo-gap, sumTo-grows, sumTo-pairs}
-use Rattle.ends.specs.Ends.{endAt, ownEnd}
-use Rattle.loads.specs.Walks.{lowerOver, elementCarried, linkCarried}
-use Rattle.ends.proofs.Chains.{end-first, end-second, own, own-below, own-at, own-past}
-use Rattle.ends.proofs.Chains.{ownEnd-le, ownEnd-ge, ownEnd-has, ownEnd-none, ownEnd-twice}
+use Rattle.ends.specs.Ends.{endAt, own}
+use Rattle.loads.specs.Walks.{Skips, lowerOver, elementCarried, linkCarried}
+use Rattle.ends.proofs.Chains.{end-first, end-second, own-yes, own-no}
 
 -- ---- the lower of two numbers, where the load is above the capacity
 
@@ -33,7 +32,7 @@ lower-above e x cap over h = rw (lt-leb x cap h, lowerOver)
 
 -- the end i is at e, and its link leads on
 unfoldable pub leadEnd : Grid → Config → (e via : ℕ) → ℕ → Bool
-leadEnd g c e via i = own (g .endA) (g .endB) (g .K) e i && (c (i / 2) && not (eqb (i / 2) via))
+leadEnd g c e via i = own (g .endA) (g .endB) c (g .K) e i && not (eqb (i / 2) via)
 
 unfoldable pub endLoad : Grid → Config → (d e via : ℕ) → ℕ → ℕ
 endLoad g c d e via i = gate (leadEnd g c e via i) (linkLoad g c d (i / 2) e)
@@ -42,7 +41,7 @@ unfoldable pub endOver : Grid → Config → (d e via : ℕ) → ℕ → ℕ
 endOver g c d e via i = orElse (g .E) (leadEnd g c e via i) (linkOver g c d (i / 2) e)
 
 -- one of the two ends at most passes
-pair-gate : (p q r s : Bool) (x : ℕ) → (p ≡ true → q ≡ true → ⊥) → gate (p && (r && s)) x + gate (q && (r && s)) x ≡ gate (r && ((p || q) && s)) x
+pair-gate : (p q r s : Bool) (x : ℕ) → (p ≡ true → q ≡ true → ⊥) → gate ((p && r) && s) x + gate ((q && r) && s) x ≡ gate (r && ((p || q) && s)) x
 pair-gate true true r s x h = absurd (h refl refl)
 pair-gate true false true true x h = omega arith
 pair-gate true false true false x h = omega arith
@@ -54,7 +53,7 @@ pair-gate false false true s x h = omega arith
 pair-gate false false false s x h = omega arith
 
 pair-low : (z : ℕ) (p q r s : Bool) (x : ℕ) → x ≤ z → (p ≡ true → q ≡ true → ⊥)
-    → min (orElse z (p && (r && s)) x) (orElse z (q && (r && s)) x) ≡ orElse z (r && ((p || q) && s)) x
+    → min (orElse z ((p && r) && s) x) (orElse z ((q && r) && s) x) ≡ orElse z (r && ((p || q) && s)) x
 pair-low z true true r s x k h = absurd (h refl refl)
 pair-low z true false true true x k h = omega arith
 pair-low z true false true false x k h = omega arith
@@ -106,19 +105,19 @@ module _ (g : Grid) (c : Config) where
   link-top formed zero l e k = omega arith
   link-top formed (suc d) l e k = over-top d (far g l e) l (far-lt g formed l e k)
 
-  lead-first : (e via l : ℕ) → l < g .K → leadEnd g c e via (2 * l) ≡ (eqb (g .endA l) e && (c l && not (eqb l via)))
+  lead-first : (e via l : ℕ) → l < g .K → leadEnd g c e via (2 * l) ≡ ((eqb (g .endA l) e && c l) && not (eqb l via))
   unfolding leadEnd own
   lead-first e via l k =
       let half : 2 * l / 2 ≡ l = omega arith in
       rw (lt-ltb (2 * l) (2 * g .K) (omega arith), half, end-first (g .endA) (g .endB) l)
 
-  lead-second : (e via l : ℕ) → l < g .K → leadEnd g c e via (2 * l + 1) ≡ (eqb (g .endB l) e && (c l && not (eqb l via)))
+  lead-second : (e via l : ℕ) → l < g .K → leadEnd g c e via (2 * l + 1) ≡ ((eqb (g .endB l) e && c l) && not (eqb l via))
   unfolding leadEnd own
   lead-second e via l k =
       let half : (2 * l + 1) / 2 ≡ l = omega arith in
       rw (lt-ltb (2 * l + 1) (2 * g .K) (omega arith), half, end-second (g .endA) (g .endB) l)
 
-  lead-off : (e via i : ℕ) → own (g .endA) (g .endB) (g .K) e i ≡ false → leadEnd g c e via i ≡ false
+  lead-off : (e via i : ℕ) → own (g .endA) (g .endB) c (g .K) e i ≡ false → leadEnd g c e via i ≡ false
   unfolding leadEnd
   lead-off e via i h = rw h
 
@@ -144,19 +143,22 @@ module _ (g : Grid) (formed : Formed g) (c : Config) (d e via : ℕ) where
       (pair-low (g .E) (eqb (g .endA l) e) (eqb (g .endB l) e) (c l) (not (eqb l via)) (linkOver g c d l e) (link-top g c formed d l e k)
       (not-both g c formed e l k))
 
-  load-off : (i : ℕ) → own (g .endA) (g .endB) (g .K) e i ≡ false → endLoad g c d e via i ≡ 0
+  load-off : (i : ℕ) → leadEnd g c e via i ≡ false → endLoad g c d e via i ≡ 0
   unfolding endLoad
-  load-off i h = rw (lead-off g c e via i h)
+  load-off i h = rw h
 
-  over-off : (i : ℕ) → own (g .endA) (g .endB) (g .K) e i ≡ false → endOver g c d e via i ≡ g .E
+  over-off : (i : ℕ) → leadEnd g c e via i ≡ false → endOver g c d e via i ≡ g .E
   unfolding endOver
-  over-off i h = rw (lead-off g c e via i h)
+  over-off i h = rw h
+
+  lead-past : (i : ℕ) → 2 * g .K ≤ i → leadEnd g c e via i ≡ false
+  lead-past i h = lead-off g c e via i (own-no (g .endA) (g .endB) c (g .K) e i (λ k _ _. omega arith))
 
   -- over all ends it is what the links add
   all-loads : g .K ≤ 96 → g .load e + sumTo 192 (endLoad g c d e via) ≡ elementLoad g c (suc d) e via
   all-loads fit = omega (
     arith,
-    sumTo-gap (endLoad g c d e via) (2 * g .K) 192 (omega arith) (λ i a b. load-off i (own-past (g .endA) (g .endB) (g .K) e i a)),
+    sumTo-gap (endLoad g c d e via) (2 * g .K) 192 (omega arith) (λ i a b. load-off i (lead-past i a)),
     sumTo-pairs (endLoad g c d e via) (λ l. gate (leads g c e via l) (linkLoad g c d l e)) (g .K) pair-load,
     load-more g c d e via,
   )
@@ -165,53 +167,43 @@ module _ (g : Grid) (formed : Formed g) (c : Config) (d e via : ℕ) where
       → leastTo 192 (g .E) (endOver g c d e via) ≡ leastTo (g .K) (g .E) (λ l. orElse (g .E) (leads g c e via l) (linkOver g c d l e))
   all-lows fit =
       leastTo-gap (g .E) (endOver g c d e via) (2 * g .K) 192 (omega arith)
-      (λ i a b. omega (arith, over-off i (own-past (g .endA) (g .endB) (g .K) e i a)))
+      (λ i a b. omega (arith, over-off i (lead-past i a)))
       ∙ leastTo-pairs (g .E) (endOver g c d e via) (λ l. orElse (g .E) (leads g c e via l) (linkOver g c d l e)) (g .K) pair-over
 
 -- ---- the walk
 
--- what is added up, and the lowest found, once the ends below j are gone by; j is an own end of e, or 192
+-- what is added up, and the lowest found, once the ends below j are gone by; j is an end at e, or 192
 pub record Walked (g : Grid) (c : Config) (d e via sum over j : ℕ) : Type 0 where
   pub at-most : j ≤ 192
-  pub chain : ownEnd (g .endA) (g .endB) (g .K) e j ≡ j
+  pub below : j < 192 → j < 2 * g .K
+  pub near : j < 192 → endAt (g .endA) (g .endB) j ≡ e
   pub sums : sum ≡ g .load e + sumTo j (endLoad g c d e via)
   pub lows : over ≡ leastTo j (g .E) (endOver g c d e via)
 
 module _ (g : Grid) (formed : Formed g) (c : Config) (d e via : ℕ) where
-  -- from i on to the next own end
-  walked-gap : (i j sum over : ℕ) → i ≤ 192 → j ≡ ownEnd (g .endA) (g .endB) (g .K) e i → sum ≡ g .load e + sumTo i (endLoad g c d e via)
+  -- from i on to the next end of the chain
+  walked-gap : (i j sum over : ℕ) → Skips (g .endA) (g .endB) c (g .K) e i j → sum ≡ g .load e + sumTo i (endLoad g c d e via)
       → over ≡ leastTo i (g .E) (endOver g c d e via) → Walked g c d e via sum over j
-  walked-gap i j sum over k q s o = record {
-    at-most = omega (arith, ownEnd-le (g .endA) (g .endB) (g .K) e i k);
-    chain = ap (ownEnd (g .endA) (g .endB) (g .K) e) q ∙ ownEnd-twice (g .endA) (g .endB) (g .K) e i k ∙ sym q;
-    sums = omega (arith, sumTo-gap (endLoad g c d e via) i j up (λ m a b. load-off g formed c d e via m (none m a b)));
-    lows = o ∙ sym (leastTo-gap (g .E) (endOver g c d e via) i j up (λ m a b. omega (arith, over-off g formed c d e via m (none m a b))));
+  walked-gap i j sum over q s o = record {
+    at-most = q .at-most;
+    below = q .below;
+    near = q .near;
+    sums = omega (arith, sumTo-gap (endLoad g c d e via) i j (q .at-least) (λ m a b. load-off g formed c d e via m (off m a b)));
+    lows = o ∙ sym (leastTo-gap (g .E) (endOver g c d e via) i j (q .at-least) (λ m a b. omega (arith, over-off g formed c d e via m (off m a b))));
   }
     where
-      up : i ≤ j
-      up = omega (arith, ownEnd-ge (g .endA) (g .endB) (g .K) e i)
+      off : (m : ℕ) → i ≤ m → m < j → leadEnd g c e via m ≡ false
+      off m a b = lead-off g c e via m (q .none m a b)
 
-      none : (m : ℕ) → i ≤ m → m < j → own (g .endA) (g .endB) (g .K) e m ≡ false
-      none m a b = ownEnd-none (g .endA) (g .endB) (g .K) e i m a (omega arith)
-
-  pub walked-start : (j : ℕ) → j ≡ ownEnd (g .endA) (g .endB) (g .K) e 0 → Walked g c d e via (g .load e) (g .E) j
-  walked-start j q = walked-gap 0 j (g .load e) (g .E) (omega arith) q (omega (arith, sumTo-no (endLoad g c d e via)))
+  pub walked-start : (j : ℕ) → Skips (g .endA) (g .endB) c (g .K) e 0 j → Walked g c d e via (g .load e) (g .E) j
+  walked-start j q = walked-gap 0 j (g .load e) (g .E) q (omega (arith, sumTo-no (endLoad g c d e via)))
       (sym (leastTo-no (g .E) (endOver g c d e via)))
 
   module _ (sum over j : ℕ) (w : Walked g c d e via sum over j) (k : j < 192) where
-    walked-own : own (g .endA) (g .endB) (g .K) e j ≡ true
-    walked-own = subst (λ z. own (g .endA) (g .endB) (g .K) e z ≡ true) (w .chain)
-        (ownEnd-has (g .endA) (g .endB) (g .K) e j (w .at-most) (omega (arith, w .chain)))
-
-    pub walked-below : j < 2 * g .K
-    walked-below = own-below (g .endA) (g .endB) (g .K) e j walked-own
-
-    pub walked-near : endAt (g .endA) (g .endB) j ≡ e
-    walked-near = own-at (g .endA) (g .endB) (g .K) e j walked-own
-
     lead-on : c (j / 2) ≡ true → (j / 2 ≡ via → ⊥) → leadEnd g c e via j ≡ true
     unfolding leadEnd
-    lead-on h n = and-both (own (g .endA) (g .endB) (g .K) e j) _ walked-own (and-both (c (j / 2)) _ h (ap not (ne-eqb (j / 2) via n)))
+    lead-on h n = and-both (own (g .endA) (g .endB) c (g .K) e j) _ (own-yes (g .endA) (g .endB) c (g .K) e j (w .below k) (w .near k) h)
+        (ap not (ne-eqb (j / 2) via n))
 
     load-on : c (j / 2) ≡ true → (j / 2 ≡ via → ⊥) → endLoad g c d e via j ≡ linkLoad g c d (j / 2) e
     unfolding endLoad
@@ -222,36 +214,33 @@ module _ (g : Grid) (formed : Formed g) (c : Config) (d e via : ℕ) where
     over-on h n = rw (lead-on h n)
 
     -- the link of j leads on: what it carries is added
-    pub walked-on : (j′ : ℕ) → c (j / 2) ≡ true → (j / 2 ≡ via → ⊥) → j′ ≡ ownEnd (g .endA) (g .endB) (g .K) e (suc j)
+    pub walked-on : (j′ : ℕ) → c (j / 2) ≡ true → (j / 2 ≡ via → ⊥) → Skips (g .endA) (g .endB) c (g .K) e (suc j) j′
         → Walked g c d e via (sum + linkLoad g c d (j / 2) e) (min over (linkOver g c d (j / 2) e)) j′
-    walked-on j′ h n q = walked-gap (suc j) j′ _ _ (omega arith) q
+    walked-on j′ h n q = walked-gap (suc j) j′ _ _ q
         (omega (arith, w .sums, sumTo-more (endLoad g c d e via) j, load-on h n))
         (omega (arith, w .lows, leastTo-more (g .E) (endOver g c d e via) j, over-on h n))
 
-    lead-not : (c (j / 2) && not (eqb (j / 2) via)) ≡ false → leadEnd g c e via j ≡ false
-    unfolding leadEnd
-    lead-not h = rw h (and-false (own (g .endA) (g .endB) (g .K) e j))
-
-    load-not : (c (j / 2) && not (eqb (j / 2) via)) ≡ false → endLoad g c d e via j ≡ 0
-    unfolding endLoad
-    load-not h = rw (lead-not h)
-
-    over-not : (c (j / 2) && not (eqb (j / 2) via)) ≡ false → endOver g c d e via j ≡ g .E
-    unfolding endOver
-    over-not h = rw (lead-not h)
-
-    walked-past : (j′ : ℕ) → (c (j / 2) && not (eqb (j / 2) via)) ≡ false → j′ ≡ ownEnd (g .endA) (g .endB) (g .K) e (suc j)
-        → Walked g c d e via sum over j′
-    walked-past j′ h q = walked-gap (suc j) j′ _ _ (omega arith) q
-        (omega (arith, w .sums, sumTo-more (endLoad g c d e via) j, load-not h))
-        (omega (arith, w .lows, leastTo-more (g .E) (endOver g c d e via) j, over-not h, leastTo-top j (g .E) (endOver g c d e via)))
+    walked-past : (j′ : ℕ) → leadEnd g c e via j ≡ false → Skips (g .endA) (g .endB) c (g .K) e (suc j) j′ → Walked g c d e via sum over j′
+    walked-past j′ h q = walked-gap (suc j) j′ _ _ q
+        (omega (arith, w .sums, sumTo-more (endLoad g c d e via) j, load-off g formed c d e via j h))
+        (omega (
+          arith,
+          w .lows,
+          leastTo-more (g .E) (endOver g c d e via) j,
+          over-off g formed c d e via j h,
+          leastTo-top j (g .E) (endOver g c d e via),
+        ))
 
     -- it is open, or the one come by: nothing is added
-    pub walked-open : (j′ : ℕ) → c (j / 2) ≡ false → j′ ≡ ownEnd (g .endA) (g .endB) (g .K) e (suc j) → Walked g c d e via sum over j′
-    walked-open j′ h q = walked-past j′ (rw h) q
+    pub walked-open : (j′ : ℕ) → c (j / 2) ≡ false → Skips (g .endA) (g .endB) c (g .K) e (suc j) j′ → Walked g c d e via sum over j′
+    walked-open j′ h q = walked-past j′ (lead-off g c e via j (own-no (g .endA) (g .endB) c (g .K) e j (λ _ _ m. false≢true (sym h ∙ m)))) q
 
-    pub walked-via : (j′ : ℕ) → j / 2 ≡ via → j′ ≡ ownEnd (g .endA) (g .endB) (g .K) e (suc j) → Walked g c d e via sum over j′
-    walked-via j′ h q = walked-past j′ (rw (eq-eqb (j / 2) via h) (and-false (c (j / 2)))) q
+    lead-via : j / 2 ≡ via → leadEnd g c e via j ≡ false
+    unfolding leadEnd
+    lead-via h = rw (eq-eqb (j / 2) via h) (and-false (own (g .endA) (g .endB) c (g .K) e j))
+
+    pub walked-via : (j′ : ℕ) → j / 2 ≡ via → Skips (g .endA) (g .endB) c (g .K) e (suc j) j′ → Walked g c d e via sum over j′
+    walked-via j′ h q = walked-past j′ (lead-via h) q
 
     -- no partial sum is above the whole
     pub walked-room : g .K ≤ 96 → c (j / 2) ≡ true → (j / 2 ≡ via → ⊥) → sum + linkLoad g c d (j / 2) e ≤ elementLoad g c (suc d) e via

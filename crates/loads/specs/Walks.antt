@@ -8,9 +8,9 @@ use lib.Dec.{eqb, leb}
 use lib.ListN.{length}
 use Rattle.feeding.specs.Below.{leastTo}
 use Rattle.feeding.specs.Networks.{Grid, at}
-use Rattle.feeding.specs.Parts.{Config}
+use Rattle.feeding.specs.Parts.{Config, closedIn}
 use Rattle.feeding.specs.Loads.{elementLoad, linkLoad, elementOver, linkOver}
-use Rattle.ends.specs.Ends.{endAt, ownEnd}
+use Rattle.ends.specs.Ends.{endAt, own}
 use Rattle.loads.specs.declared.Carried.{Carried}
 
 -- the two ends of a link by the far elements of its ends
@@ -38,7 +38,15 @@ walkGrid E K far load capacity =
       endB = endsB far;
     }
 
--- the lists reach over the first E elements and K links, and chain the ends of the links
+-- from the end i on, j is an end at e or 192, and between them the ends at e are of links that aren't closed
+pub record Skips (a b : ℕ → ℕ) (closed : Config) (K e i j : ℕ) : Type 0 where
+  pub at-least : i ≤ j
+  pub at-most : j ≤ 192
+  pub below : j < 192 → j < 2 * K
+  pub near : j < 192 → endAt a b j ≡ e
+  pub none : (m : ℕ) → i ≤ m → m < j → own a b closed K e m ≡ false
+
+-- the lists reach over the first E elements and K links, and the chains of ends skip no end of a closed link
 pub record Lent (head next far closed load capacity : List ℕ) (E K : ℕ) : Type 0 where
   pub fit : K ≤ 96
   pub head-long : E ≤ length head
@@ -49,8 +57,8 @@ pub record Lent (head next far closed load capacity : List ℕ) (E K : ℕ) : Ty
   pub capacity-long : E ≤ length capacity
   pub far-in : (j : ℕ) → j < 2 * K → at far j < E
   pub differ : (l : ℕ) → l < K → endsA far l ≡ endsB far l → ⊥
-  pub heads : (e : ℕ) → e < E → at head e ≡ ownEnd (endsA far) (endsB far) K e 0
-  pub nexts : (j : ℕ) → j < 2 * K → at next j ≡ ownEnd (endsA far) (endsB far) K (endAt (endsA far) (endsB far) j) (suc j)
+  pub heads : (e : ℕ) → e < E → Skips (endsA far) (endsB far) (closedIn closed) K e 0 (at head e)
+  pub nexts : (j : ℕ) → j < 2 * K → Skips (endsA far) (endsB far) (closedIn closed) K (nearAt far j) (suc j) (at next j)
 
 -- the lower of `over` and e, where e is loaded above its capacity
 unfoldable pub lowerOver : (e load capacity over : ℕ) → ℕ

@@ -11,7 +11,7 @@ use Rattle.stages.specs.declared.Stage.the-variants.{Elements, Links}
 use Rattle.network.specs.declared.Element.{Element}
 use Rattle.network.specs.declared.Link.{Link}
 use Rattle.network.specs.declared.Network.{Network}
-use Rattle.records.specs.Records.{word, suits}
+use Rattle.fields.specs.Fields.{word, suits}
 use Rattle.network_file.specs.Runs.{reached}
 use Rattle.network_file.specs.NetworkFiles.{elementOf, linkOf, networkFile}
 use Rattle.network_file.specs.Accepted.{WellFormed}

@@ -13,7 +13,8 @@ use Rattle.records.specs.declared.Found.the-variants.{Record, Refused as Found�
 use Rattle.network_file.specs.declared.reader.Reached.the-variants.{At, Refused}
 use Rattle.network_file.specs.declared.reader.NetworkPart.{NetworkPart}
 use Rattle.stages.specs.Stages.{afterLast}
-use Rattle.records.specs.Records.{word, dueAt}
+use Rattle.fields.specs.Fields.{word}
+use Rattle.records.specs.Records.{dueAt}
 use Rattle.network.specs.Networks.{emptyNetwork}
 use Rattle.network_file.specs.Runs.{Outcome, refused, reached, andThen, records, asIs}
 use Rattle.network_file.specs.NetworkFiles.{withElement, withLink, elementsOn, linksOn, endOn}

@@ -11,7 +11,7 @@ use lib.Seq.{getD-set-same, getD-set-other}
 use Rattle.stages.specs.declared.Stage.{Stage}
 use Rattle.stages.specs.declared.Stage.the-variants.{Elements, Links}
 use Rattle.network.specs.declared.Network.{Network}
-use Rattle.records.specs.Records.{word}
+use Rattle.fields.specs.Fields.{word}
 use Rattle.network.specs.Networks.{emptyNetwork}
 use Rattle.network_file.specs.Runs.{reached, records}
 use Rattle.network_file.specs.NetworkFiles.{elementOf, linkOf, withElement, withLink, networkFile}

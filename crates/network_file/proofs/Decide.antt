@@ -20,7 +20,8 @@ use Rattle.records.specs.declared.Found.the-variants.{Record, Refused}
 use Rattle.network.specs.declared.Network.{Network}
 use Rattle.network.specs.Refusals.{pick, firstBroken}
 use Rattle.stages.specs.Stages.{nextStage, afterLast}
-use Rattle.records.specs.Records.{word, lengthField, kindField, lengthOf, isRefused, foundBy, frameRules, headRules, elementRules, linkRules, planHeadRules, stepRules, fieldRules, recordRules, dueAt}
+use Rattle.fields.specs.Fields.{word, lengthOf, headRules, elementRules, linkRules, planHeadRules, stepRules, fieldRules}
+use Rattle.records.specs.Records.{lengthField, kindField, isRefused, foundBy, frameRules, recordRules, dueAt}
 use Rattle.network.specs.Networks.{emptyNetwork}
 use Rattle.network_file.specs.Runs.{Outcome, refused, reached, andThen, records, asIs}
 use Rattle.network_file.specs.NetworkFiles.{elementOf, linkOf, withElement, withLink, networkFile}

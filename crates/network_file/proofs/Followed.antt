@@ -14,7 +14,8 @@ use Rattle.stages.specs.declared.Stage.the-variants.{Head, Elements, Links, End
 use Rattle.stages.specs.Stages.{afterLast}
 use Rattle.records.specs.declared.Found.{Found}
 use Rattle.records.specs.declared.Found.the-variants.{Record, Refused}
-use Rattle.records.specs.Records.{word, kindField, frameRules, headRules, elementRules, linkRules, planHeadRules, stepRules, fieldRules, recordRules, dueAt}
+use Rattle.fields.specs.Fields.{word, headRules, elementRules, linkRules, planHeadRules, stepRules, fieldRules}
+use Rattle.records.specs.Records.{kindField, frameRules, recordRules, dueAt}
 use Rattle.records.proofs.Due.{KindAt, nextAt, shortest, goes-one-way, first-append-kept, due-kept}
 use Rattle.records.proofs.Reader.{due-found}
 use Rattle.network_file.specs.Runs.{reached, records, asIs}

@@ -18,7 +18,8 @@ use Rattle.records.specs.declared.Found.the-variants.{Record, Refused}
 use Rattle.network.specs.declared.Network.{Network}
 use Rattle.network.specs.Refusals.{ruleNumber, Check, check, firstBroken}
 use Rattle.stages.specs.Stages.{afterLast}
-use Rattle.records.specs.Records.{word, kindField, frameRules, headRules, elementRules, linkRules, planHeadRules, stepRules, fieldRules, recordRules, dueAt}
+use Rattle.fields.specs.Fields.{word, headRules, elementRules, linkRules, planHeadRules, stepRules, fieldRules}
+use Rattle.records.specs.Records.{kindField, frameRules, recordRules, dueAt}
 use Rattle.network.specs.Networks.{emptyNetwork}
 use Rattle.network_file.specs.Runs.{refused, reached, records, asIs}
 use Rattle.network_file.specs.NetworkFiles.{withElement, withLink, networkFile}

@@ -15,7 +15,7 @@ use Rattle.stages.specs.declared.Stage.{Stage}
 use Rattle.stages.specs.declared.Stage.the-variants.{Head}
 use Rattle.network.specs.declared.Network.{Network}
 use Rattle.stages.specs.Stages.{afterLast}
-use Rattle.records.specs.Records.{word}
+use Rattle.fields.specs.Fields.{word}
 use Rattle.network.specs.Networks.{emptyNetwork}
 use Rattle.network_file.specs.Runs.{Outcome, refused, reached, andThen, records, asIs}
 use Rattle.network_file.specs.NetworkFiles.{withElement, withLink, networkFile, elementsOn, linksOn, endOn}

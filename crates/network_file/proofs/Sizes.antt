@@ -8,7 +8,7 @@ use lib.ListN.{length}
 use Rattle.stages.specs.declared.Stage.{Stage}
 use Rattle.stages.specs.declared.Stage.the-variants.{Head, Elements, Links, End, PlanHead}
 use Rattle.network.specs.declared.Network.{Network}
-use Rattle.records.specs.Records.{word}
+use Rattle.fields.specs.Fields.{word}
 use Rattle.network.specs.Networks.{emptyNetwork}
 use Rattle.network_file.specs.Runs.{reached, records, asIs}
 use Rattle.network_file.specs.NetworkFiles.{withElement, withLink, networkFile}

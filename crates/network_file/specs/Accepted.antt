@@ -5,7 +5,7 @@ use mathlib.Core.Bool.{true}
 use Prim.Native.Nat.{ℕ, _^_, _<_, _≤_}
 use lib.ListN.{length, getD}
 use Rattle.network.specs.declared.Network.{Network}
-use Rattle.records.specs.Records.{suits}
+use Rattle.fields.specs.Fields.{suits}
 
 -- Rules 5 to 9: "E or K outside its range", "flags exceed 3", "an end of E or more, or two equal ends", "form exceeds 2", "cost
 -- doesn't suit its form"; a load and a capacity are below 2 ^ 32, a cost is of two bytes

@@ -8,7 +8,7 @@ use Rattle.network.specs.declared.Network.{Network}
 use Rattle.stages.specs.declared.Stage.{Stage}
 use Rattle.stages.specs.declared.Stage.the-variants.{Head}
 use Rattle.network.specs.Networks.{emptyNetwork, elementAdded, linkAdded}
-use Rattle.records.specs.Records.{word}
+use Rattle.fields.specs.Fields.{word}
 use Rattle.stages.specs.Stages.{afterLast}
 use Rattle.network_file.specs.Runs.{Outcome, andThen, records, asIs}
 

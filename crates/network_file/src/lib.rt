@@ -24,7 +24,9 @@ pub fn ended(s: &[u8], reached: Reached) -> Answer
     ensures { λ r. ⌜ r ≡ endedBy (now (s .entry)) reached ⌝ }
 {
     match reached {
-        Reached::Refused(refusal) => Answer::Refused(refusal),
+        Reached::Refused(refusal) => {
+            return Answer::Refused(refusal);
+        }
         Reached::At(at, _) => {
             if at < s.len() {
                 return Answer::Refused(Refusal {
@@ -32,7 +34,7 @@ pub fn ended(s: &[u8], reached: Reached) -> Answer
                     place: at,
                 });
             }
-            Answer::Accepted
+            return Answer::Accepted;
         }
     }
 }
@@ -47,11 +49,11 @@ pub fn read_network(s: &[u8]) -> NetworkRead
     match answer {
         Answer::Accepted => {
             let net = part.net;
-            NetworkRead { answer, net }
+            return NetworkRead { answer, net };
         }
         Answer::Refused(_) => {
             let net = Network::empty();
-            NetworkRead { answer, net }
+            return NetworkRead { answer, net };
         }
     }
 }

@@ -1,17 +1,17 @@
 // The network file: one head, its elements, its links, one end.
+use fields::word_at;
 use network::Element;
 use network::Link;
 use network::Network;
 use network::refusal::Refusal;
 use record_reader::record_due;
 use records::Found;
-use records::word_at;
 use stages::Stage;
 use stages::after_last;
 ghost use mathlib.Core.Path.{_≡_};
 ghost use Prim.Native.Nat.{_+_, _<_, _≤_};
 ghost use lib.ListN.{length};
-ghost use Rattle.records.specs.Records.{word};
+ghost use Rattle.fields.specs.Fields.{word};
 ghost use Rattle.network.specs.Networks.{emptyNetwork};
 ghost use Rattle.network_file.specs.Runs.{records, refused};
 ghost use Rattle.network_file.specs.NetworkFiles.{elementOf, linkOf, withElement, withLink, networkFile, elementsOn, linksOn, endOn};
@@ -156,17 +156,19 @@ fn end_on(s: &[u8], at: usize, stage: Stage, net: Network) -> NetworkPart
 {
     let found = record_due(s, at, stage, 0, 0);
     match found {
-        Found::Refused(refusal) => refused_network(refusal),
+        Found::Refused(refusal) => {
+            return refused_network(refusal);
+        }
         Found::Record {
             kind: _,
             length,
             next,
         } => {
             let after = at + length as usize;
-            NetworkPart {
+            return NetworkPart {
                 reached: Reached::At(after, next),
                 net,
-            }
+            };
         }
     }
 }
@@ -179,10 +181,11 @@ fn links_on(s: &[u8], at: usize, stage: Stage, net: Network) -> NetworkPart
     let part = read_links(s, count, at, stage, net);
     let reached = part.reached;
     match reached {
-        Reached::Refused(_) => part,
+        Reached::Refused(_) => {
+            return part;
+        }
         Reached::At(after, next) => {
-            let all = part.net;
-            end_on(s, after, after_last(next), all)
+            return end_on(s, after, after_last(next), part.net);
         }
     }
 }
@@ -195,10 +198,11 @@ fn elements_on(s: &[u8], at: usize, stage: Stage) -> NetworkPart
     let part = read_elements(s, count, at, stage);
     let reached = part.reached;
     match reached {
-        Reached::Refused(_) => part,
+        Reached::Refused(_) => {
+            return part;
+        }
         Reached::At(after, next) => {
-            let net = part.net;
-            links_on(s, after, after_last(next), net)
+            return links_on(s, after, after_last(next), part.net);
         }
     }
 }
@@ -209,11 +213,15 @@ pub fn network_file(s: &[u8]) -> NetworkPart
 {
     let found = record_due(s, 0, Stage::Head, 0, 0);
     match found {
-        Found::Refused(refusal) => refused_network(refusal),
+        Found::Refused(refusal) => {
+            return refused_network(refusal);
+        }
         Found::Record {
             kind: _,
             length,
             next,
-        } => elements_on(s, length as usize, next),
+        } => {
+            return elements_on(s, length as usize, next);
+        }
     }
 }

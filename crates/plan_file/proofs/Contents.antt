@@ -10,7 +10,7 @@ use lib.ListN.{length, getD}
 use Rattle.stages.specs.declared.Stage.{Stage}
 use Rattle.stages.specs.declared.Stage.the-variants.{Steps}
 use Rattle.plan_file.specs.declared.plan.Plan.{Plan}
-use Rattle.records.specs.Records.{word}
+use Rattle.fields.specs.Fields.{word}
 use Rattle.network_file.specs.Runs.{reached}
 use Rattle.plan_file.specs.PlanFiles.{emptyPlan, withStep, planFile}
 use Rattle.network_file.proofs.Runs.{Nth}

@@ -1,24 +1,21 @@
--- The first 4,096 bytes decide the judge's input: a plan file behind a network file has the same reading in two byte strings that agree below a limit, by the laws of runs.
+-- A plan file has the same reading in two byte strings that agree below a limit, by the laws of runs.
 -- Assumes nothing.
-use mathlib.Core.Path.{_≡_, refl, sym, ap, _∙_}
+use mathlib.Core.Path.{_≡_, refl, sym, _∙_}
 use mathlib.Core.List.{List}
 use Prim.Native.Nat.{ℕ, _+_, _≤_}
 use native.Mathlib.Omega.{arith}
-use lib.ListN.{take}
 use Rattle.stages.specs.declared.Stage.the-variants.{PlanHead, Steps}
 use Rattle.plan_file.specs.declared.plan.Plan.{Plan}
 use Rattle.stages.specs.Stages.{afterLast}
-use Rattle.records.specs.Records.{word}
-use Rattle.network_file.specs.Runs.{Outcome, andThen, asIs}
-use Rattle.network_file.specs.NetworkFiles.{networkFile}
+use Rattle.fields.specs.Fields.{word}
+use Rattle.network_file.specs.Runs.{asIs}
 use Rattle.plan_file.specs.PlanFiles.{emptyPlan, withStep, planFile}
 use Rattle.network_file.specs.Inputs.{closed}
-use Rattle.plan_file.specs.Inputs.{planInput, paired, planBehind, bothInput}
+use Rattle.plan_file.specs.Inputs.{planInput}
 use Rattle.plan_file.proofs.Parts.{planHeadRun, stepsRun, planEndRun, withSteps, plan-chain}
 use Rattle.records.proofs.Due.{longestRecord}
-use Rattle.network_file.proofs.Sizes.{networkLongest, network-size}
 use Rattle.plan_file.proofs.Sizes.{planLongest, plan-head-read, steps-read, plan-size}
-use Rattle.network_file.proofs.Decide.{Agree, take-agrees, then-agree, record-words, one-agrees, run-agrees, nothing-agrees, closed-agrees, network-file-agrees}
+use Rattle.network_file.proofs.Decide.{Agree, then-agree, record-words, one-agrees, run-agrees, nothing-agrees, closed-agrees}
 
 module _ (limit : ℕ) (s t : List ℕ) (agree : Agree limit s t) where
   plan-step-agrees : (at : ℕ) (p : Plan) → at + longestRecord ≤ limit → withStep s at p ≡ withStep t at p
@@ -48,23 +45,10 @@ module _ (limit : ℕ) (s t : List ℕ) (agree : Agree limit s t) where
         one-agrees limit s t agree 0 links asIs asIs (nothing-agrees limit s t agree) at (afterLast stage) p (omega arith)) ∙
         sym (plan-chain t links head)
 
-  -- Rule 13, and the inputs.
+  -- Rule 13.
 
   pub plan-input-agrees : (links head : ℕ) → head + planLongest + longestRecord ≤ limit → planInput s links head ≡ planInput t links head
   unfolding planInput
   plan-input-agrees links head fits =
       then-agree (planFile s links head) (planFile t links head) (closed s) (closed t) (plan-file-agrees links head fits)
       (λ at stage p e. closed-agrees limit s t agree at stage p (omega (arith, plan-size t links head at stage p e .at-most)))
-
-  pub both-input-agrees : networkLongest + planLongest + longestRecord ≤ limit → bothInput s ≡ bothInput t
-  unfolding bothInput planBehind
-  both-input-agrees fits =
-      then-agree (networkFile s) (networkFile t) (λ at stage n. planBehind s at n) (λ at stage n. planBehind t at n)
-      (network-file-agrees limit s t agree (omega arith))
-      (λ at stage n e.
-      ap (λ (o : Outcome Plan). andThen o (paired n))
-      (plan-input-agrees (n .links) at (omega (arith, network-size t at stage n e .at-most))))
-
--- What stands behind the first 4,096 bytes changes no reading.
-pub both-decided : (s : List ℕ) → bothInput (take 4096 s) ≡ bothInput s
-both-decided s = both-input-agrees 4096 (take 4096 s) s (take-agrees 4096 s) (omega arith)

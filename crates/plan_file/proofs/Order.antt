@@ -1,24 +1,21 @@
--- The rules are checked in order in a plan file, and in the inputs that hold one: by the law of a run, a record is refused with every record and file before it whole.
+-- The rules are checked in order in a plan file, alone or not: by the law of a run, a record is refused with every record and file before it whole.
 -- Assumes nothing.
 use mathlib.Core.Path.{_≡_, sym, _∙_}
 use mathlib.Core.List.{List}
 use mathlib.Core.Logic.{_⊎_, ⊎-elim, ⊎-map}
 use Prim.Native.Nat.{ℕ, _+_}
-use native.Mathlib.Omega.{arith}
 use Rattle.network.specs.declared.refusal.Refusal.{Refusal}
 use Rattle.stages.specs.declared.Stage.{Stage}
 use Rattle.stages.specs.declared.Stage.the-variants.{PlanHead}
-use Rattle.network.specs.declared.Network.{Network}
 use Rattle.plan_file.specs.declared.plan.Plan.{Plan}
 use Rattle.stages.specs.Stages.{afterLast}
-use Rattle.records.specs.Records.{word}
+use Rattle.fields.specs.Fields.{word}
 use Rattle.network_file.specs.Runs.{refused, reached, asIs}
-use Rattle.network_file.specs.NetworkFiles.{networkFile}
 use Rattle.plan_file.specs.PlanFiles.{emptyPlan, withStep, planFile}
-use Rattle.plan_file.specs.Inputs.{planInput, paired, planBehind, bothInput}
+use Rattle.plan_file.specs.Inputs.{planInput}
 use Rattle.network_file.proofs.Parts.{Behind, AfterEnd, then-refused, closed-refused}
 use Rattle.plan_file.proofs.Parts.{planHeadRun, stepsRun, planEndRun, withSteps, plan-chain}
-use Rattle.network_file.proofs.Order.{RunBreaks, run-breaks, NetworkBreaks, network-breaks}
+use Rattle.network_file.proofs.Order.{RunBreaks, run-breaks}
 
 -- The plan file at an offset refused: in which part, the parts before it being whole.
 pub data PlanBreaks (s : List ℕ) (links head : ℕ) (r : Refusal) : Type 0 where
@@ -54,38 +51,10 @@ plan-breaks s links at r h =
         in-plan-end (b .at) (b .stage) (b .value) (b .first)
         (run-breaks s 0 links asIs 1 (b .at) (afterLast (b .stage)) (b .value) r (b .then))
 
--- The inputs refused: a file breaks one of rules 1 to 12, or all files are whole and a byte follows.
+-- The input refused: the file breaks one of rules 1 to 12, or it is whole and a byte follows.
 pub plan-input-breaks :
     (s : List ℕ) (links at : ℕ) (r : Refusal) →
     planInput s links at ≡ refused r →
     PlanBreaks s links at r ⊎ AfterEnd s (planFile s links at) r
 unfolding planInput
 plan-input-breaks s links at r h = ⊎-map (plan-breaks s links at r) (λ x. x) (closed-refused s (planFile s links at) r h)
-
-pub data BothBreaks (s : List ℕ) (r : Refusal) : Type 0 where
-  in-network : NetworkBreaks s r → BothBreaks s r
-  in-plan : (at : ℕ) (stage : Stage) (n : Network) → networkFile s ≡ reached at stage n → PlanBreaks s (n .links) at r → BothBreaks s r
-  after-plan :
-      (at : ℕ) (stage : Stage) (n : Network) →
-      networkFile s ≡ reached at stage n →
-      AfterEnd s (planFile s (n .links) at) r →
-      BothBreaks s r
-
-pub both-input-breaks : (s : List ℕ) (r : Refusal) → bothInput s ≡ refused r → BothBreaks s r
-unfolding bothInput planBehind
-both-input-breaks s r h =
-    ⊎-elim (λ e. in-network (network-breaks s r e)) behind (then-refused (λ at stage n. planBehind s at n) (networkFile s) r h)
-  where
-    behind : Behind (networkFile s) (λ at stage n. planBehind s at n) (refused r) → BothBreaks s r
-    behind b =
-        ⊎-elim
-        (λ e.
-        ⊎-elim
-        (in-plan (b .at) (b .stage) (b .value) (b .first))
-        (after-plan (b .at) (b .stage) (b .value) (b .first))
-        (plan-input-breaks s (b .value .links) (b .at) r e))
-        (λ (c : Behind (planInput s (b .value .links) (b .at)) (paired (b .value)) (refused r)).
-        let clash = c .then in
-        let z : _≡_ {A = ℕ} 0 1 = cc in
-        absurd (omega arith))
-        (then-refused (paired (b .value)) (planInput s (b .value .links) (b .at)) r (b .then))

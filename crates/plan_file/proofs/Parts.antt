@@ -7,7 +7,7 @@ use Rattle.stages.specs.declared.Stage.{Stage}
 use Rattle.stages.specs.declared.Stage.the-variants.{PlanHead}
 use Rattle.plan_file.specs.declared.plan.Plan.{Plan}
 use Rattle.stages.specs.Stages.{afterLast}
-use Rattle.records.specs.Records.{word}
+use Rattle.fields.specs.Fields.{word}
 use Rattle.network_file.specs.Runs.{Outcome, refused, reached, andThen, records, asIs}
 use Rattle.plan_file.specs.PlanFiles.{emptyPlan, withStep, planFile, stepsOn, planEndOn}
 

@@ -6,7 +6,7 @@ use Prim.Native.Nat.{ℕ, _+_}
 use lib.Dec.{eqb}
 use lib.ListN.{set}
 use Rattle.plan_file.specs.declared.plan.Plan.{Plan}
-use Rattle.records.specs.Records.{word}
+use Rattle.fields.specs.Fields.{word}
 use Rattle.plan_file.specs.PlanFiles.{withStep}
 
 abbrev pub stepTaken : Plan → ℕ → ℕ → Plan

@@ -7,7 +7,7 @@ use lib.Dec.{eqb}
 use lib.ListN.{set, replicate}
 use Rattle.stages.specs.declared.Stage.{Stage}
 use Rattle.stages.specs.declared.Stage.the-variants.{PlanHead}
-use Rattle.records.specs.Records.{word}
+use Rattle.fields.specs.Fields.{word}
 use Rattle.stages.specs.Stages.{afterLast}
 use Rattle.network_file.specs.Runs.{Outcome, andThen, records, asIs}
 use Rattle.plan_file.specs.declared.plan.Plan.{Plan}

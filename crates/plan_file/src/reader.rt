@@ -1,16 +1,16 @@
 // The plan file: one plan head, its steps, one end.
 use crate::plan::Plan;
+use fields::word_at;
 use network::refusal::Refusal;
 use network_file::reader::Reached;
 use record_reader::record_due;
 use records::Found;
-use records::word_at;
 use stages::Stage;
 use stages::after_last;
 ghost use mathlib.Core.Path.{_≡_};
 ghost use Prim.Native.Nat.{_+_, _<_, _≤_};
 ghost use lib.ListN.{length};
-ghost use Rattle.records.specs.Records.{word};
+ghost use Rattle.fields.specs.Fields.{word};
 ghost use Rattle.network_file.specs.Runs.{records, refused};
 ghost use Rattle.plan_file.specs.PlanFiles.{emptyPlan, withStep, planFile, stepsOn, planEndOn};
 ghost use Rattle.plan_file.specs.Inputs.{planPart};
@@ -74,17 +74,19 @@ fn end_of_plan(s: &[u8], at: usize, stage: Stage, links: usize, plan: Plan) -> P
 {
     let found = record_due(s, at, stage, 0, links);
     match found {
-        Found::Refused(refusal) => refused_plan(refusal),
+        Found::Refused(refusal) => {
+            return refused_plan(refusal);
+        }
         Found::Record {
             kind: _,
             length,
             next,
         } => {
             let after = at + length as usize;
-            PlanPart {
+            return PlanPart {
                 reached: Reached::At(after, next),
                 plan,
-            }
+            };
         }
     }
 }
@@ -97,10 +99,11 @@ fn steps_on(s: &[u8], head: usize, at: usize, stage: Stage, links: usize) -> Pla
     let part = read_steps(s, count, at, stage, links);
     let reached = part.reached;
     match reached {
-        Reached::Refused(_) => part,
+        Reached::Refused(_) => {
+            return part;
+        }
         Reached::At(after, next) => {
-            let plan = part.plan;
-            end_of_plan(s, after, after_last(next), links, plan)
+            return end_of_plan(s, after, after_last(next), links, part.plan);
         }
     }
 }
@@ -111,11 +114,15 @@ pub fn plan_file(s: &[u8], at: usize, links: usize) -> PlanPart
 {
     let found = record_due(s, at, Stage::PlanHead, 0, links);
     match found {
-        Found::Refused(refusal) => refused_plan(refusal),
+        Found::Refused(refusal) => {
+            return refused_plan(refusal);
+        }
         Found::Record {
             kind: _,
             length,
             next,
-        } => steps_on(s, at, at + length as usize, next, links),
+        } => {
+            return steps_on(s, at, at + length as usize, next, links);
+        }
     }
 }

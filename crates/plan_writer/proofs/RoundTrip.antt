@@ -12,17 +12,15 @@ use lib.ListN.{length, getD, set, take, drop, replicate, length-append, take-app
 use lib.Seq.{paste, paste-suc, getD-take, length-take-le, take-at}
 use lib.Dec.{eqb}
 use borrow.Author.Tests.{le-ltb, lt-leb}
-use Rattle.stages.specs.declared.Stage.{Stage}
 use Rattle.stages.specs.declared.Stage.the-variants.{PlanHead, Steps, PlanEnd, Over}
 use Rattle.records.specs.declared.Found.the-variants.{Record}
-use Rattle.network.specs.declared.Network.{Network}
 use Rattle.plan_file.specs.declared.plan.Plan.{Plan}
 use Rattle.stages.specs.Stages.{nextStage}
-use Rattle.records.specs.Records.{word, lengthOf, fieldRules, planHeadRules, stepRules, dueAt}
+use Rattle.fields.specs.Fields.{word, lengthOf, fieldRules, planHeadRules, stepRules}
+use Rattle.records.specs.Records.{dueAt}
 use Rattle.network_file.specs.Runs.{reached, records, asIs}
-use Rattle.network_file.specs.NetworkFiles.{networkFile}
 use Rattle.plan_file.specs.PlanFiles.{emptyPlan, withStep, stepsOn, planEndOn, planFile}
-use Rattle.plan_file.specs.Inputs.{planInput, planBehind, bothInput}
+use Rattle.plan_file.specs.Inputs.{planInput}
 use Rattle.plan_writer.specs.Writing.{stateNumber, planHeadBytes, stepBytes, stepsBytes, endBytes, planBytes, planLength, bufferAfter}
 use Rattle.plan_writer.proofs.Files.{head-length, step-length, end-length, steps-length, plan-bytes-length}
 use Rattle.plan_writer.proofs.Stands.{Stands, stands-between, stands-left, stands-right, stands-word, number-back}
@@ -282,12 +280,3 @@ module _
           take-at (planBytes p) (drop (planLength p) b) (planLength p) (plan-bytes-length p),
         )
         accepted
-
-    -- behind a network file with so many links, as the judge reads it
-    pub judge-reads :
-        (pre : List ℕ) (stage : Stage) (n : Network) →
-        n .links ≡ links →
-        networkFile (pre ++ planBytes p) ≡ reached (length pre) stage n →
-        bothInput (pre ++ planBytes p) ≡ reached (length pre + planLength p) Over (n, firstSteps p (p .steps))
-    unfolding bothInput planBehind
-    judge-reads pre stage n e h = rw (h, e, round-trip-input pre)

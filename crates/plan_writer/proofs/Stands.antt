@@ -7,7 +7,7 @@ use native.Mathlib.Nat.{add-assoc}
 use native.Mathlib.Omega.{arith}
 use lib.ListN.{length, getD, length-append, List·getD-append}
 use lib.Seq.{getD-append-add}
-use Rattle.records.specs.Records.{word}
+use Rattle.fields.specs.Fields.{word}
 
 pub record Stands (s : List ℕ) (at : ℕ) (xs : List ℕ) : Type 0 where
   pub whole : at + length xs ≤ length s

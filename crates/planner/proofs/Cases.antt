@@ -4,17 +4,28 @@ use mathlib.Core.Path.{_≡_, sym, ap, _∙_}
 use mathlib.Core.List.{List}
 use Prim.Native.Nat.{ℕ}
 use Rattle.network.specs.declared.refusal.Refusal.{Refusal}
+use Rattle.plan_file.specs.declared.plan.Plan.{Plan}
 use Rattle.plan_writer.specs.declared.Written.{Written}
 use Rattle.plan_writer.specs.declared.Written.the-variants as Written·
 use Rattle.plan_writer.specs.Writing.{written, bufferAfter}
 use Rattle.sums.specs.declared.Sums.{Sums}
 use Rattle.texts.specs.Texts.{refusedLine}
 use Rattle.lines.specs.Lines.{planLines, noneLines}
-use Rattle.planner.specs.declared.Planned.{Planned}
-use Rattle.planner.specs.declared.Reply.{Reply}
-use Rattle.planner.specs.declared.Reply.the-variants as Reply·
-use Rattle.planner.specs.declared.Outcome.{Outcome}
+use Rattle.outcomes.specs.declared.Planned.{Planned}
+use Rattle.outcomes.specs.declared.Reply.{Reply}
+use Rattle.outcomes.specs.declared.Reply.the-variants as Reply·
+use Rattle.outcomes.specs.declared.Outcome.{Outcome}
 use Rattle.planner.specs.Replies.{replyWritten, replyWith, replyFor, bufferWith, bufferFor, linesWith, linesOf}
+
+-- what `write_plan` answers is the reply: the file fits, or it does not
+module _ (p : Planned) (plan : Plan) (buffer : List ℕ) (w : Written) (made : w ≡ written plan buffer) where
+  pub plan-fits : (k : ℕ) → w ≡ Written·.Bytes k → Reply·.Plan p ≡ replyWritten p (written plan buffer)
+  unfolding replyWritten
+  plan-fits k fits = ap (replyWritten p) (sym fits ∙ made)
+
+  pub plan-short : (f : Refusal) → w ≡ Written·.Refused f → Reply·.Refused f ≡ replyWritten p (written plan buffer)
+  unfolding replyWritten
+  plan-short f short = ap (replyWritten p) (sym short ∙ made)
 
 module _ (o found : Outcome) (is : found ≡ o) where
   module _ (buffer : List ℕ) where
@@ -26,34 +37,26 @@ module _ (o found : Outcome) (is : found ≡ o) where
     unfolding bufferFor
     with-buffer r e = ap (λ (x : Reply). bufferWith x (found .plan) buffer) (sym e) ∙ ap (λ (x : Outcome). bufferFor x buffer) is
 
-    -- a plan whose file fits
-    pub plan-fits : (p : Planned) (w : Written) (k : ℕ) → found .reply ≡ Reply·.Plan p → w ≡ written (found .plan) buffer → w ≡ Written·.Bytes k
-        → Reply·.Plan p ≡ replyFor o buffer
-    unfolding replyWith replyWritten
-    plan-fits p w k e made fits = ap (replyWritten p) (sym fits ∙ made) ∙ with-reply (Reply·.Plan p) e
-
-    -- and one whose file does not
-    pub plan-short : (p : Planned) (w : Written) (f : Refusal) → found .reply ≡ Reply·.Plan p → w ≡ written (found .plan) buffer
-        → w ≡ Written·.Refused f → Reply·.Refused f ≡ replyFor o buffer
-    unfolding replyWith replyWritten
-    plan-short p w f e made short = ap (replyWritten p) (sym short ∙ made) ∙ with-reply (Reply·.Plan p) e
+    pub plan-reply : (p : Planned) (r : Reply) → found .reply ≡ Reply·.Plan p → r ≡ replyWritten p (written (found .plan) buffer) → r ≡ replyFor o buffer
+    unfolding replyWith
+    plan-reply p r e made = made ∙ with-reply (Reply·.Plan p) e
 
     pub plan-buffer : (p : Planned) (after : List ℕ) → found .reply ≡ Reply·.Plan p → after ≡ bufferAfter (found .plan) buffer
         → after ≡ bufferFor o buffer
     unfolding bufferWith
     plan-buffer p after e made = made ∙ with-buffer (Reply·.Plan p) e
 
-    pub none-reply : (l : Sums) → found .reply ≡ Reply·.NoPlan l → Reply·.NoPlan l ≡ replyFor o buffer
+    pub none-reply : (l : Sums) → found .reply ≡ Reply·.NoPlan l → found .reply ≡ replyFor o buffer
     unfolding replyWith
-    none-reply l e = with-reply (Reply·.NoPlan l) e
+    none-reply l e = e ∙ with-reply (Reply·.NoPlan l) e
 
     pub none-buffer : (l : Sums) → found .reply ≡ Reply·.NoPlan l → buffer ≡ bufferFor o buffer
     unfolding bufferWith
     none-buffer l e = with-buffer (Reply·.NoPlan l) e
 
-    pub refused-reply : (f : Refusal) → found .reply ≡ Reply·.Refused f → Reply·.Refused f ≡ replyFor o buffer
+    pub refused-reply : (f : Refusal) → found .reply ≡ Reply·.Refused f → found .reply ≡ replyFor o buffer
     unfolding replyWith
-    refused-reply f e = with-reply (Reply·.Refused f) e
+    refused-reply f e = e ∙ with-reply (Reply·.Refused f) e
 
     pub refused-buffer : (f : Refusal) → found .reply ≡ Reply·.Refused f → buffer ≡ bufferFor o buffer
     unfolding bufferWith

@@ -1,5 +1,2 @@
 pub mod Cases
-pub mod Exactly
-pub mod Operating
 pub mod Promises
-pub mod Solving

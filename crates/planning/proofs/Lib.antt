@@ -1,5 +1,6 @@
 pub mod Carried
 pub mod Choices
+pub mod Found
 pub mod Holdings
 pub mod Joining
 pub mod Listing

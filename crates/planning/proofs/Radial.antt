@@ -87,10 +87,6 @@ restored-within net formed c′ c sub h =
 pub radial-opened : (g : Grid) → Formed g → (c c′ : Config) → Opened c′ c → radial? g c ≡ true → radial? g c′ ≡ true
 radial-opened g formed c c′ sub h = radial-within g formed c′ c (λ l _. sub l) h
 
-pub radial-ext : (g : Grid) → Formed g → (c c′ : Config) → ((l : ℕ) → l < g .K → c l ≡ c′ l) → radial? g c ≡ radial? g c′
-radial-ext g formed c c′ same =
-    same-test _ _ (radial-within g formed c′ c (λ l k h. same l k ∙ h)) (radial-within g formed c c′ (λ l k h. sym (same l k) ∙ h))
-
 pub restored-ext : (net : Net) → Formed (net .grid) → (c c′ : Config) → ((l : ℕ) → l < net .grid .K → c l ≡ c′ l)
     → restored? net c ≡ restored? net c′
 restored-ext net formed c c′ same =

@@ -280,7 +280,7 @@ fn try_network(bytes: &[u8]) {
 }
 
 fn try_both(bytes: &[u8]) {
-    let read = plan_file::read_network_and_plan(bytes);
+    let read = judge_input::read_network_and_plan(bytes);
     let answer = read.answer;
     let net = read.net;
     let plan = read.plan;
@@ -371,7 +371,7 @@ fn show_entries(net: Network) {
 
 // What is read of both files, and their plan written again.
 fn show_contents(bytes: &[u8]) {
-    let read = plan_file::read_network_and_plan(bytes);
+    let read = judge_input::read_network_and_plan(bytes);
     let net = read.net;
     let plan = read.plan;
     show_entries(net);

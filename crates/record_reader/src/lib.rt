@@ -27,14 +27,16 @@ fn moved_on(s: &[u8], at: usize, stage: Stage, elements: usize, links: usize) ->
 {
     let found = due_at(s, at, stage, elements, links);
     match found {
-        Found::Refused(_) => Moved { found, at },
+        Found::Refused(_) => {
+            return Moved { found, at };
+        }
         Found::Record {
             kind: _,
             length,
             next: _,
         } => {
             let after = at + length as usize;
-            Moved { found, at: after }
+            return Moved { found, at: after };
         }
     }
 }

@@ -19,7 +19,8 @@ use Rattle.stages.specs.declared.Next.the-variants.{Go, Refused as Next·Refuse
 use Rattle.records.specs.declared.Found.the-variants.{Record, Refused}
 use Rattle.network.specs.Refusals.{Check, pick, firstBroken}
 use Rattle.stages.specs.Stages.{leads, nextStage}
-use Rattle.records.specs.Records.{word, lengthField, kindField, lengthOf, either, isRefused, named, suits, foundBy, frameRules, headRules, elementRules, linkRules, planHeadRules, stepRules, fieldRules, recordRules, recordAt, dueAt}
+use Rattle.fields.specs.Fields.{word, lengthOf, either, suits, headRules, elementRules, linkRules, planHeadRules, stepRules, fieldRules}
+use Rattle.records.specs.Records.{lengthField, kindField, isRefused, named, foundBy, frameRules, recordRules, recordAt, dueAt}
 
 -- The first broken of two lists of rules.
 

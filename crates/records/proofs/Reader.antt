@@ -1,11 +1,9 @@
 -- What the record reader returns after each of its tests, and what the field rules add: one law for each way out.
 -- Assumes nothing.
-use mathlib.Core.Bool.{Bool, true, false, not}
-use mathlib.Core.List.{List, [], _∷_, _++_}
+use mathlib.Core.List.{List}
 use mathlib.Core.Path.{_≡_, refl, ap, sym, _∙_}
 use Prim.Native.Nat.{ℕ, _+_, _-_, _<_, _≤_}
 use native.Mathlib.Omega.{arith}
-use lib.Dec.{eqb, ltb}
 use lib.ListN.{length}
 use borrow.Author.Tests.{eq-eqb, ne-eqb, lt-ltb, le-ltb}
 use Rattle.network.specs.declared.refusal.Rule.{Rule}
@@ -17,9 +15,10 @@ use Rattle.stages.specs.declared.Next.{Next}
 use Rattle.stages.specs.declared.Next.the-variants.{Go, Refused as Next·Refused}
 use Rattle.records.specs.declared.Found.{Found}
 use Rattle.records.specs.declared.Found.the-variants.{Record, Refused}
-use Rattle.network.specs.Refusals.{Check, check, pick, firstBroken}
+use Rattle.network.specs.Refusals.{firstBroken}
 use Rattle.stages.specs.Stages.{nextStage}
-use Rattle.records.specs.Records.{word, lengthOf, kindField, named, foundBy, frameRules, fieldRules, recordAt, dueAt}
+use Rattle.fields.specs.Fields.{word, lengthOf, fieldRules}
+use Rattle.records.specs.Records.{kindField, named, foundBy, frameRules, recordAt, dueAt}
 use Rattle.records.proofs.Due.{frame-kept, due-fields}
 
 abbrev pub refusal : Rule → ℕ → Found

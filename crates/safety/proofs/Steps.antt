@@ -1,6 +1,6 @@
 -- What each step of `check` asks of the lent lists, and what each of its answers is: the first rule of 14 to 17 that is broken.
 -- Assumes nothing.
-use mathlib.Core.Path.{_≡_, refl, sym, ap, _∙_}
+use mathlib.Core.Path.{_≡_, sym, ap, _∙_}
 use mathlib.Core.Bool.{Bool, false, or-self}
 use mathlib.Core.List.{List}
 use Prim.Native.Nat.{ℕ, _<_, _≤_}
@@ -26,9 +26,8 @@ use Rattle.parts.specs.declared.Parts.{Parts}
 use Rattle.parts.specs.Labelling.{AllBelow, EndsBelow, partsOf, lastOfPart}
 use Rattle.parts.proofs.Grids.{label-long, looped-long, label-below, grid-ends, grid-label, grid-looped}
 use Rattle.parts.proofs.Lasts.{length-lasts}
-use Rattle.ends.specs.Ends.{ownEnds}
-use Rattle.loads.specs.Walks.{walkGrid, Lent, Carries, overPlace}
-use Rattle.loads.proofs.Same.{lent, over-place-is, carries}
+use Rattle.loads.specs.Walks.{walkGrid, Carries, overPlace}
+use Rattle.loads.proofs.Same.{over-place-is, carries}
 use Rattle.sets.specs.Sets.{Reach, oneOf}
 use Rattle.places.specs.Places.{LoopsReach, LastReach, leastLooped, notLast, withLast}
 use Rattle.safety.specs.Checks.{Checked, refused}
@@ -51,7 +50,7 @@ module _ {load capacity flags from to head next far closed : List ℕ} {E K : �
   config = closedIn closed
 
   pub ends : EndsBelow 64 from to closed K
-  ends = grid-ends E K load capacity flags from to closed (ok .formed) (ok .elements-fit) (ok .from-long) (ok .to-long) (ok .closed-long)
+  ends = grid-ends E K load capacity flags from to closed (ok .formed) (ok .elements-fit) (ok .from-long) (ok .to-long) (ok .lent .closed-long)
 
   pub flags-reach : Reach flags E
   flags-reach = record { fit = omega (arith, ok .elements-fit); long = ok .flags-long }
@@ -68,24 +67,19 @@ module _ {load capacity flags from to head next far closed : List ℕ} {E K : �
   unfolding oneOf gridOf
   faulty-at faulty q e k = ap (λ (xs : List ℕ). isIn xs e) q ∙ isIn-bits 96 E _ e fit96 k
 
-  pub lists-lent : Lent head next far closed load capacity E K
-  lists-lent = rw (ok .head-is, ok .next-is, ok .far-is)
-      (lent E K load capacity flags from to (ok .formed) (ok .elements-fit) (ok .links-fit) (ownEnds (at from) (at to) K) refl
-      closed (ok .closed-long) (ok .load-long) (ok .capacity-long))
-
   -- where every part is a tree, the load at each element is below 2 ^ 63
   pub trees-carried : (sound : List ℕ) → ltb (treePlace grid config) E ≡ false → Carries (walkGrid E K far load capacity) config sound
   unfolding gridOf
-  trees-carried sound trees = rw (ok .far-is)
-      (carries E K load capacity flags from to (ok .formed) (ok .elements-fit) (ok .links-fit) (ownEnds (at from) (at to) K) refl
-      config sound (safe-bridges grid (ok .formed) config (trees-kept grid (ok .formed) config trees)) (ok .load-in))
+  trees-carried sound trees =
+      carries E K load capacity flags from to (ok .formed) (ok .elements-fit) (ok .lent .fit) far (ok .ends-a) (ok .ends-b)
+      config sound (safe-bridges grid (ok .formed) config (trees-kept grid (ok .formed) config trees)) (ok .load-in)
 
   -- the lowest overloaded element over the lent lists
   pub over-lowest-is : (sound : List ℕ) → sound ≡ bits 96 E (oneOf flags 1 1)
       → overPlace (walkGrid E K far load capacity) config sound ≡ lowestOver grid config
-  over-lowest-is sound sound-is = rw (ok .far-is)
-      (over-place-is E K load capacity flags from to (ok .formed) (ok .elements-fit) (ok .links-fit) (ownEnds (at from) (at to) K) refl
-      config sound (sound-at sound sound-is))
+  over-lowest-is sound sound-is =
+      over-place-is E K load capacity flags from to (ok .formed) (ok .elements-fit) (ok .lent .fit) far (ok .ends-a) (ok .ends-b)
+      config sound (sound-at sound sound-is)
 
   -- ---- with the parts
 

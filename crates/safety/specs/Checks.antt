@@ -8,23 +8,19 @@ use Rattle.network.specs.declared.refusal.Rule.{Rule}
 use Rattle.network_file.specs.declared.Answer.{Answer}
 use Rattle.network_file.specs.declared.Answer.the-variants.{Refused}
 use Rattle.feeding.specs.Networks.{Formed, gridOf, at}
-use Rattle.ends.specs.Ends.{ownEnds}
+use Rattle.loads.specs.Walks.{endsA, endsB, Lent}
 
 unfoldable pub refused : Rule → ℕ → Answer
 refused r p = Refused (record { rule = r; place = p })
 
--- the lists hold a formed grid within the limits, its loads below 2 ^ 32, and the chained ends of its links
+-- the lists hold a formed grid within the limits, its loads below 2 ^ 32, and chained ends of its links that skip no closed one
 pub record Checked (load capacity flags from to head next far closed : List ℕ) (E K : ℕ) : Type 0 where
   pub elements-fit : E ≤ 64
-  pub links-fit : K ≤ 96
-  pub load-long : E ≤ length load
-  pub capacity-long : E ≤ length capacity
   pub flags-long : E ≤ length flags
   pub from-long : K ≤ length from
   pub to-long : K ≤ length to
-  pub closed-long : K ≤ length closed
   pub load-in : (e : ℕ) → e < E → at load e < 2 ^ 32
   pub formed : Formed (gridOf E K load capacity flags from to)
-  pub head-is : head ≡ ownEnds (at from) (at to) K .head
-  pub next-is : next ≡ ownEnds (at from) (at to) K .next
-  pub far-is : far ≡ ownEnds (at from) (at to) K .far
+  pub lent : Lent head next far closed load capacity E K
+  pub ends-a : (l : ℕ) → l < K → endsA far l ≡ at from l
+  pub ends-b : (l : ℕ) → l < K → endsB far l ≡ at to l

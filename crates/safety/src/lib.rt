@@ -1,5 +1,7 @@
 // Whether a configuration is safe, and the rule of 14 to 17 that it breaks first, with its place.
+use ends::OwnEnds;
 use loads::over_place;
+use network::Network;
 use network::refusal::Refusal;
 use network::refusal::Rule;
 use network_file::Answer;
@@ -11,9 +13,12 @@ use places::tree_place;
 use sets::members_of;
 ghost use mathlib.Core.Path.{_≡_};
 ghost use Prim.Native.Nat.{_<_};
-ghost use Rattle.feeding.specs.Networks.{gridOf};
+ghost use lib.ListN.{length, replicate};
+ghost use Rattle.network_file.specs.Accepted.{WellFormed};
+ghost use Rattle.feeding.specs.Networks.{gridOf, at, isIn};
 ghost use Rattle.feeding.specs.Parts.{closedIn};
 ghost use Rattle.feeding.specs.Acceptance.{safety};
+ghost use Rattle.ends.specs.Ends.{ownEnds};
 ghost use Rattle.safety.specs.Checks.{Checked, refused};
 
 fn broken(rule: Rule, place: usize) -> Answer
@@ -22,8 +27,8 @@ fn broken(rule: Rule, place: usize) -> Answer
     Answer::Refused(Refusal { rule, place })
 }
 
-// The first of rules 14 to 17 that the configuration breaks; closed[l] is 1 for a closed link, and head, next and far are the links' ends.
-pub fn check<'a>(
+// `check` on the lists that are lent.
+fn check_lists<'a>(
     load: &'a [u32],
     capacity: &'a [u32],
     flags: &'a [u16],
@@ -72,4 +77,34 @@ pub fn check<'a>(
         return broken(Rule::Overloaded, over);
     }
     Answer::Accepted
+}
+
+// The first of rules 14 to 17 that the configuration breaks; closed[l] is 1 for a closed link, and `own` has the ends of all links.
+pub fn check<'a>(net: Network, own: OwnEnds, closed: &'a [u8]) -> Answer
+    requires { ⌜ WellFormed net ⌝ }
+    requires { ⌜ own ≡ ownEnds (at (net .from)) (at (net .to)) (isIn (replicate 96 1)) (net .links) ⌝ }
+    requires { ⌜ length (now closed) ≡ 96 ⌝ }
+    ensures { λ r. ⌜ r ≡ safety (gridOf (net .elements) (net .links) (net .load) (net .capacity) (net .flags) (net .from) (net .to)) (closedIn (now (closed .entry))) ⌝ }
+{
+    let load = net.load;
+    let capacity = net.capacity;
+    let flags = net.flags;
+    let from = net.from;
+    let to = net.to;
+    let head = own.head;
+    let next = own.next;
+    let far = own.far;
+    check_lists(
+        &load,
+        &capacity,
+        &flags,
+        &from,
+        &to,
+        &head,
+        &next,
+        &far,
+        closed,
+        net.elements,
+        net.links,
+    )
 }

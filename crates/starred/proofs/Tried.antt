@@ -4,7 +4,8 @@ use mathlib.Core.Path.{_≡_, refl}
 use mathlib.Core.List.{map}
 use Rattle.network.specs.Networks.{emptyNetwork}
 use Rattle.stages.specs.Stages.{nextStage}
-use Rattle.records.specs.Records.{word, lengthOf, frameRules, headRules, elementRules, linkRules, planHeadRules, stepRules, fieldRules, recordRules, dueAt}
+use Rattle.fields.specs.Fields.{word, lengthOf, headRules, elementRules, linkRules, planHeadRules, stepRules, fieldRules}
+use Rattle.records.specs.Records.{frameRules, recordRules, dueAt}
 use Rattle.network_file.specs.Runs.{records}
 use Rattle.network_file.specs.NetworkFiles.{elementOf, linkOf, withElement, withLink, endOn, linksOn, elementsOn, networkFile}
 use Rattle.network_file.specs.Inputs.{networkInput, networkRead}
@@ -20,12 +21,14 @@ use Rattle.acceptance.specs.Reading.{handedOut, acceptedFrom, acceptedRead}
 use Rattle.planning.specs.Choosing.{works?, firstIf, cheaper, best, planned}
 use Rattle.sums.specs.Sums.{sumsAfter}
 use Rattle.plan_file.specs.PlanFiles.{emptyPlan, withStep, planEndOn, stepsOn, planFile}
-use Rattle.plan_file.specs.Inputs.{planInput, planBehind, bothInput, bothRead}
+use Rattle.plan_file.specs.Inputs.{planInput}
+use Rattle.judge_input.specs.Inputs.{planBehind, bothInput, bothRead}
 use Rattle.printed.specs.Printing.{withOne, planWith, stepsTo, stepsOf}
 use Rattle.plan_writer.specs.Writing.{planHeadBytes, stepBytes, endBytes}
 use Rattle.texts.specs.Texts.{digits, decimal, field, lineOf, refusedLine}
 use Rattle.lines.specs.Lines.{planLine, stepLine, stepLines, loadLine, planLines, noneLines}
-use Rattle.planner.specs.Replies.{plannedBy, unplanned, outcomeFrom, outcomeOf, outcomeAnswered, outcomeRead, outcome, linesWith, linesOf}
+use Rattle.outcomes.specs.Outcomes.{plannedBy, unplanned, outcomeFrom, outcomeOf, outcomeAnswered, outcomeRead, outcome}
+use Rattle.planner.specs.Replies.{linesWith, linesOf}
 use Rattle.marking.specs.Marks.{examined, firstBad, stepExamined, stepsExamined, darkPlace, scoredBy, markAt, markAfter, markBy, costIn, cheapestCost, markOf}
 use Rattle.mark_lines.specs.MarkLines.{markLine}
 use Rattle.judge.specs.Judging.{markAccepted, markRead, markOfRead, markFor}

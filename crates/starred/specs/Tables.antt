@@ -6,7 +6,8 @@ use Prim.Native.Nat.{ℕ}
 use Prim.Native.Char.{code}
 use Prim.Native.String.{String, [] as empty, _∷_ as _before_}
 use Rattle.plan_writer.specs.Writing.{number, planHeadBytes, stepBytes, endBytes}
-use Rattle.planner.specs.Replies.{outcome, linesOf}
+use Rattle.outcomes.specs.Outcomes.{outcome}
+use Rattle.planner.specs.Replies.{linesOf}
 use Rattle.mark_lines.specs.MarkLines.{markLine}
 use Rattle.judge.specs.Judging.{markFor}
 

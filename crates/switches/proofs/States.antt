@@ -73,6 +73,22 @@ states-other link closed (suc n) s states l h =
     states-other link closed n (s / 2) (set states (link n) (turned (closed n) (s % 2))) l (λ j k. h j (omega arith))
     ∙ getD-set-other states (link n) l (turned (closed n) (s % 2)) 0 (h n (omega arith))
 
+-- what any set leaves closed is closed where every switch is
+pub states-within : (link closed ones : ℕ → ℕ) (n : ℕ) → ((j : ℕ) → j < n → ones j ≡ 1) → (s l : ℕ) (xs ys : List ℕ)
+    → ((j : ℕ) → j < n → link j < length ys) → (at xs l ≡ 1 → at ys l ≡ 1)
+    → at (withSet link closed n s xs) l ≡ 1 → at (withSet link ones n 0 ys) l ≡ 1
+unfolding withSet turned
+states-within link closed ones zero one s l xs ys inside sub h = sub h
+states-within link closed ones (suc n) one s l xs ys inside sub h =
+    states-within link closed ones n (λ j k. one j (omega arith)) (s / 2) l _ (set ys (link n) (turned (ones n) 0))
+    (λ j k. omega (arith, inside j (omega arith), length-set ys (link n) (turned (ones n) 0))) (go (eqb l (link n)) refl) h
+  where
+    go : (t : Bool) → eqb l (link n) ≡ t → at (set xs (link n) (turned (closed n) (s % 2))) l ≡ 1 → at (set ys (link n) (turned (ones n) 0)) l ≡ 1
+    go true t q = ap (at (set ys (link n) (turned (ones n) 0))) (eqb-true l (link n) t)
+        ∙ getD-set-same ys (link n) (turned (ones n) 0) 0 (inside n (omega arith)) ∙ ap (λ x. turned x 0) (one n (omega arith))
+    go false t q = getD-set-other ys (link n) l (turned (ones n) 0) 0 (eqb-false l (link n) t)
+        ∙ sub (sym (getD-set-other xs (link n) l (turned (closed n) (s % 2)) 0 (eqb-false l (link n) t)) ∙ q)
+
 -- a switch of the set is turned over, and any other is as at the start
 module _ (start : ℕ → Bool) (link closed : ℕ → ℕ) where
   states-differ : (n : ℕ) → ((i j : ℕ) → i < j → j < n → link i < link j)

@@ -122,10 +122,6 @@ pub line-of : (l l₁ l₂ l₃ l₄ : List ℕ) (at i j k m a b : ℕ) (word : 
 unfolding lineOf
 line-of l l₁ l₂ l₃ l₄ at i j k m a b word put first second end = line-two l l₁ l₂ l₃ l₄ at i j k m a b a b word put first second end refl refl
 
-pub line-of-length : (word : List ℕ) (a b : ℕ) → a < 2 ^ 64 → b < 2 ^ 64 → length (lineOf word a b) ≤ length word + 43
-unfolding lineOf
-line-of-length word a b h k = simp length-append (omega (arith, field-64 a h, field-64 b k))
-
 -- as the only line
 pub front-line : (l l′ : List ℕ) (k x y a b : ℕ) (word : List ℕ) → k ≤ length l → Put l 0 l′ k (lineOf word x y) → x ≡ a → y ≡ b
     → (k ≡ length (lineOf word a b)) × (l′ ≡ inFront (lineOf word a b) l)

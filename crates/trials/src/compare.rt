@@ -152,7 +152,26 @@ fn compare_file(
     hold(&buffer, 4096, &expected, 4096, counts);
 }
 
-// The judge's line for a submitted plan behind the network file of n bytes. The way 1 is the enumeration's own plan, which the planner's file must hold.
+// The judge's line for the file of n bytes, of a network with the steps given behind it.
+fn compare_line(
+    net: Network,
+    study: Study,
+    file: &[u8; 4096],
+    n: usize,
+    links: &[usize; 4096],
+    states: &[usize; 4096],
+    steps: usize,
+    counts: &mut [usize; 96],
+) {
+    let mut expected: [u8; 4096] = [0; 4096];
+    let mut out: [u8; 4096] = [0; 4096];
+    let m = mark_text(net, study, links, states, steps, &mut expected);
+    let got = judge_line(file, n, &mut out);
+    count(counts, mark_kind(&expected, m));
+    hold(&out, got, &expected, m, counts);
+}
+
+// A submitted plan behind the network file of n bytes. The way 1 is the enumeration's own plan, which the planner's file must hold.
 fn compare_mark(
     net: Network,
     study: Study,
@@ -164,14 +183,9 @@ fn compare_mark(
 ) {
     let mut links: [usize; 4096] = [0; 4096];
     let mut states: [usize; 4096] = [0; 4096];
-    let mut expected: [u8; 4096] = [0; 4096];
-    let mut out: [u8; 4096] = [0; 4096];
     let steps = sampled(net, study, way, seed, &mut links, &mut states);
     let end = put_plan(file, n, &links, &states, steps);
-    let m = mark_text(net, study, &links, &states, steps, &mut expected);
-    let got = judge_line(file, end, &mut out);
-    count(counts, mark_kind(&expected, m));
-    hold(&out, got, &expected, m, counts);
+    compare_line(net, study, file, end, &links, &states, steps, counts);
     if way == 1 && study.cost < LIMIT {
         compare_file(file, n, &links, &states, steps, counts);
     }

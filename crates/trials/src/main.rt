@@ -15,9 +15,7 @@ fn count(name: &[u8], n: usize) {
     io::write_all(STDOUT_FILENO, b"\n");
 }
 
-fn print(counts: &[usize; 96]) {
-    count(b"networks ", NETWORKS);
-    count(b"with 12 operable switches ", at(counts, compare::TWELVE));
+fn print_replies(counts: &[usize; 96]) {
     count(b"planner PLAN ", at(counts, 0));
     count(b"planner NONE ", at(counts, 1));
     count(b"planner REFUSED 14 ", at(counts, 2));
@@ -25,6 +23,9 @@ fn print(counts: &[usize; 96]) {
     count(b"planner REFUSED 16 ", at(counts, 4));
     count(b"planner REFUSED 17 ", at(counts, 5));
     count(b"planner REFUSED 18 ", at(counts, 6));
+}
+
+fn print_marks(counts: &[usize; 96]) {
     count(b"judge BROKEN, reason 1 ", at(counts, 7));
     count(b"judge BROKEN, reason 2 ", at(counts, 8));
     count(b"judge BROKEN, reason 3 ", at(counts, 9));
@@ -32,6 +33,13 @@ fn print(counts: &[usize; 96]) {
     count(b"judge VALID, excess 0 ", at(counts, 11));
     count(b"judge VALID, excess above 0 ", at(counts, 12));
     count(b"judge REFUSED ", at(counts, 13));
+}
+
+fn print(counts: &[usize; 96]) {
+    count(b"networks ", NETWORKS);
+    count(b"with 12 operable switches ", at(counts, compare::TWELVE));
+    print_replies(counts);
+    print_marks(counts);
     count(b"differences ", at(counts, compare::DIFFERENCES));
 }
 

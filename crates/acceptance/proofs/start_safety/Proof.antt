@@ -1,71 +1,55 @@
 -- Rules 14 to 17 at the start: the check of the configuration that the forms give.
 -- Assumes nothing.
 use mathlib.Core.Path.{_∙_}
-use borrow.Author.Needs.{needs}
+use Prim.Native.Nat.{ℕ}
+use lib.ListN.{length-replicate}
 use Rattle.restoration.proofs.Reach.{bits-long}
-use Rattle.safety.proofs.Networks.{two-ends, checked}
+use Rattle.safety.proofs.Networks.{two-ends}
 use Rattle.acceptance.proofs.Start.{start-is}
+use borrow.Author.Needs.{needs}
 use Rattle.acceptance.proofs.start_safety.Statement.{statement}
 use Rattle.acceptance.proofs.start_safety.Tie as tie
 
 slice-aggregate-own-ends : tie.Need-slice-aggregate-own-ends
-slice-aggregate-own-ends c = search needs
+slice-aggregate-own-ends c =
+    search needs
 
 slice-aggregate-own-ends-2 : tie.Need-slice-aggregate-own-ends-2
-slice-aggregate-own-ends-2 c = search needs
+slice-aggregate-own-ends-2 c =
+    search needs
+
+slice-aggregate-own-ends-3 : tie.Need-slice-aggregate-own-ends-3
+slice-aggregate-own-ends-3 c =
+    search needs
 
 own-ends-requires : tie.Need-own-ends-requires
 own-ends-requires c κs =
-    let args· = c .before .before .before .before .before .before .before .before .args in
-    let pre· = c .before .before .before .before .before .before .before .before .pre in
-    two-ends (args· .net) pre·
+    let args· = c .before .before .before .before .before .before .args in
+    let pre· = c .before .before .before .before .before .before .pre in
+    two-ends (args· .net) pre· _ (length-replicate {A = ℕ} 96 1)
 
 slice-aggregate-members-of : tie.Need-slice-aggregate-members-of
-slice-aggregate-members-of c = search needs
+slice-aggregate-members-of c =
+    search needs
 
 members-of-requires : tie.Need-members-of-requires
-members-of-requires c κs = search needs
+members-of-requires c κs =
+    search needs
 
 slice-aggregate-check : tie.Need-slice-aggregate-check
-slice-aggregate-check c = search needs
-
-slice-aggregate-check-2 : tie.Need-slice-aggregate-check-2
-slice-aggregate-check-2 c = search needs
-
-slice-aggregate-check-3 : tie.Need-slice-aggregate-check-3
-slice-aggregate-check-3 c = search needs
-
-slice-aggregate-check-4 : tie.Need-slice-aggregate-check-4
-slice-aggregate-check-4 c = search needs
-
-slice-aggregate-check-5 : tie.Need-slice-aggregate-check-5
-slice-aggregate-check-5 c = search needs
-
-slice-aggregate-check-6 : tie.Need-slice-aggregate-check-6
-slice-aggregate-check-6 c = search needs
-
-slice-aggregate-check-7 : tie.Need-slice-aggregate-check-7
-slice-aggregate-check-7 c = search needs
-
-slice-aggregate-check-8 : tie.Need-slice-aggregate-check-8
-slice-aggregate-check-8 c = search needs
-
-slice-aggregate-check-9 : tie.Need-slice-aggregate-check-9
-slice-aggregate-check-9 c = search needs
+slice-aggregate-check c =
+    search needs
 
 check-requires : tie.Need-check-requires
 check-requires c κs =
-    let args· = c .before .before .before .before .before .before .before .before .before .before .before .before .before .before .before .before .before .before .before .before .before .before .before .args in
-    let pre· = c .before .before .before .before .before .before .before .before .before .before .before .before .before .before .before .before .before .before .before .before .before .before .before .pre in
-    let own-ends· = c .before .before .before .before .before .before .before .before .before .before .before .before .before .before .own-ends in
-    let members-of· = c .before .before .before .before .before .before .before .before .before .members-of in
-    checked (args· .net) pre· (own-ends· .result) (members-of· .result) (own-ends· .ensures) (bits-long _ _ _ (members-of· .ensures))
+    let pre· = c .before .before .before .before .before .before .before .before .before .before .pre in
+    (pre·, (c .before .before .before .own-ends .ensures, bits-long _ _ _ (c .before .members-of .ensures)))
 
 returns : tie.Need-returns
 returns c =
-    let args· = c .before .before .before .before .before .before .before .before .before .before .before .before .before .before .before .before .before .before .before .before .before .before .before .before .args in
-    let pre· = c .before .before .before .before .before .before .before .before .before .before .before .before .before .before .before .before .before .before .before .before .before .before .before .before .pre in
-    let members-of· = c .before .before .before .before .before .before .before .before .before .before .members-of in
+    let args· = c .before .before .before .before .before .before .before .before .before .before .before .args in
+    let pre· = c .before .before .before .before .before .before .before .before .before .before .before .pre in
+    let members-of· = c .before .before .members-of in
     c .check .ensures ∙ start-is (args· .net) pre· (members-of· .result) (members-of· .ensures)
 
 pub start-safety-spec : {M : Type 1} → statement M
@@ -74,17 +58,10 @@ start-safety-spec =
     (tie.spec
     slice-aggregate-own-ends
     slice-aggregate-own-ends-2
+    slice-aggregate-own-ends-3
     own-ends-requires
     slice-aggregate-members-of
     members-of-requires
     slice-aggregate-check
-    slice-aggregate-check-2
-    slice-aggregate-check-3
-    slice-aggregate-check-4
-    slice-aggregate-check-5
-    slice-aggregate-check-6
-    slice-aggregate-check-7
-    slice-aggregate-check-8
-    slice-aggregate-check-9
     check-requires
     returns)

@@ -1,26 +1,30 @@
 -- `all_within` answers whether no walk from a marked element finds one above its capacity: the loop keeps that those before s found none.
 -- Assumes nothing.
-use Prim.Native.Nat.{_-_, _≤_}
-use mathlib.Core.Path.{_≡_}
+use Prim.Native.Nat.{_+_, _-_, _≤_}
+use mathlib.Core.Path.{_≡_, refl}
 use mathlib.Core.Logic.{⊎-elim}
 use native.Mathlib.Omega.{arith}
+use Rattle.feeding.specs.Networks.{at}
 use Rattle.feeding.specs.Parts.{closedIn}
-use Rattle.loads.proofs.Sources.{placeTo, place-none, place-off, carries-at}
+use Rattle.loads.proofs.Sources.{placeTo, place-none, place-off}
 use Rattle.capacity.proofs.Sources.{kept-on, kept-not, kept-all}
+use Rattle.packing.specs.Packing.{farOf, loadOf, capacityOf}
+use Rattle.packing.proofs.Packed.{part-at}
 use Rattle.capacity.proofs.all_within.Statement.{statement}
 use Rattle.capacity.proofs.all_within.Tie as tie
 
 abbrev Inv-loop : tie.InvT-loop
-Inv-loop head next far closed load capacity sound elements links s₀ s =
-    (s ≤ elements) × (elements ≡ placeTo elements links far load capacity (closedIn closed) sound s)
+Inv-loop chain closed rating sound elements links ratings s₀ s =
+    (s ≤ elements) × (elements ≡ placeTo elements links (farOf chain) (loadOf rating) (capacityOf rating) (closedIn closed) sound s)
 
 abbrev μ-loop : tie.MeasureT-loop
-μ-loop head next far closed load capacity sound elements links s₀ s = elements - s
+μ-loop chain closed rating sound elements links ratings s₀ s =
+    elements - s
 
 loop-holds : tie.Need-loop-holds Inv-loop μ-loop
 loop-holds c =
-    let a = c .args in
-    (omega arith, place-none (a .elements) (a .links) (a .far .now) (a .load .now) (a .capacity .now) (closedIn (a .closed .now)) (a .sound .now))
+    let args· = c .before .args in
+    (omega arith, place-none (args· .elements) (args· .links) (farOf (args· .chain .now)) (loadOf (args· .rating .now)) (capacityOf (args· .rating .now)) (closedIn (args· .closed .now)) (args· .sound .now))
 
 element-copy-out-if1 : tie.Need-element-copy-out-if1 Inv-loop μ-loop
 element-copy-out-if1 c = omega arith
@@ -28,30 +32,33 @@ element-copy-out-if1 c = omega arith
 mul-element-within : tie.Need-mul-element-within Inv-loop μ-loop
 mul-element-within c = omega arith
 
+add-element-within : tie.Need-add-element-within Inv-loop μ-loop
+add-element-within c = omega arith
+
+mul-element-within-2 : tie.Need-mul-element-within-2 Inv-loop μ-loop
+mul-element-within-2 c = omega arith
+
+shared-slice-read-element-within : tie.Need-shared-slice-read-element-within Inv-loop μ-loop
+shared-slice-read-element-within c = omega arith
+
+cast-element-within : tie.Need-cast-element-within Inv-loop μ-loop
+cast-element-within c =
+    let loop· = c .before .before .before .before .loop in
+    omega (arith, c .shared-slice-known .given (64 + loop· .s))
+
 element-within-requires : tie.Need-element-within-requires Inv-loop μ-loop
 element-within-requires c κs =
-    let a = c .before .before .before .before .args in
-    let p = c .before .before .before .before .pre in
-    let n = c .before .before .before .loop in (
-      p .0,
-      (
-        (p .1 .0, omega arith),
-        carries-at (a .elements) (a .links) (a .far .now) (a .load .now) (a .capacity .now) (closedIn (a .closed .now))
-            (a .sound .now)
-            (p .1 .1) (n .s) (omega arith) (omega arith),
-      ),
-    )
+    let pre· = c .before .before .before .before .before .before .pre in
+    (pre· .0, (pre· .1, omega arith))
 
 returns : tie.Need-returns Inv-loop μ-loop
 returns c =
-    let a = c .before .before .before .before .before .before .args in
-    let p = c .before .before .before .before .before .before .pre in
-    let n = c .before .before .before .before .before .loop in
-    let r = c .before .element-within in
-    let small = carries-at (a .elements) (a .links) (a .far .now) (a .load .now) (a .capacity .now) (closedIn (a .closed .now)) (a .sound .now)
-    (p .1 .1) (n .s) (omega arith) (omega arith) in
-    kept-not (a .elements) (a .links) (a .far .now) (a .load .now) (a .capacity .now) (closedIn (a .closed .now)) (a .sound .now)
-    (n .s) (r .result) (omega arith) (omega arith) small (r .ensures) (omega arith)
+    let args· = c .before .before .before .before .before .before .before .before .args in
+    let loop· = c .before .before .before .before .before .before .loop in
+    let element-within· = c .before .element-within in
+    kept-not (args· .elements) (args· .links) (farOf (args· .chain .now)) (loadOf (args· .rating .now)) (capacityOf (args· .rating .now)) (closedIn (args· .closed .now)) (args· .sound .now)
+    (loop· .s) (element-within· .result) (omega arith) (omega arith) (omega (arith, c .before .before .shared-slice-known .given (64 + loop· .s), part-at 64 64 (args· .rating .now) (loop· .s) (64 + loop· .s) (omega arith) refl))
+    (rw (part-at 64 64 (args· .rating .now) (loop· .s) (64 + loop· .s) (omega arith) refl) (element-within· .ensures)) (omega arith)
 
 add-s : tie.Need-add-s Inv-loop μ-loop
 add-s c = omega arith
@@ -61,23 +68,23 @@ loop-less c = omega arith
 
 loop-again : tie.Need-loop-again Inv-loop μ-loop
 loop-again c =
-    let a = c .before .before .before .before .args in
-    let n = c .before .before .before .loop in (
+    let args· = c .before .before .before .before .before .args in
+    let loop· = c .before .before .before .loop in (
       omega arith,
       ⊎-elim
-          (λ w. kept-on (a .elements) (a .links) (a .far .now) (a .load .now) (a .capacity .now) (closedIn (a .closed .now)) (a .sound .now)
-          (n .s) (w .1 .result) (omega arith) (w .1 .ensures) (omega arith) (n .inv .1))
-          (λ w. place-off (a .elements) (a .links) (a .far .now) (a .load .now) (a .capacity .now) (closedIn (a .closed .now)) (a .sound .now)
-          (n .s) (a .elements) (omega arith) (n .inv .1))
+          (λ w. kept-on (args· .elements) (args· .links) (farOf (args· .chain .now)) (loadOf (args· .rating .now)) (capacityOf (args· .rating .now)) (closedIn (args· .closed .now)) (args· .sound .now)
+          (loop· .s) (at (args· .rating .now) (64 + loop· .s)) (w .2 .result) (omega arith) (w .2 .ensures) (omega arith) (loop· .inv .1))
+          (λ w. place-off (args· .elements) (args· .links) (farOf (args· .chain .now)) (loadOf (args· .rating .now)) (capacityOf (args· .rating .now)) (closedIn (args· .closed .now)) (args· .sound .now)
+          (loop· .s) (args· .elements) (omega arith) (loop· .inv .1))
           (c .if1 .came),
     )
 
 returns-2 : tie.Need-returns-2 Inv-loop μ-loop
 returns-2 c =
-    let a = c .before .before .args in
-    let n = c .before .loop in
-    kept-all (a .elements) (a .links) (a .far .now) (a .load .now) (a .capacity .now) (closedIn (a .closed .now)) (a .sound .now)
-    (n .s) (omega arith) (n .inv .1)
+    let args· = c .before .before .before .args in
+    let loop· = c .before .loop in
+    kept-all (args· .elements) (args· .links) (farOf (args· .chain .now)) (loadOf (args· .rating .now)) (capacityOf (args· .rating .now)) (closedIn (args· .closed .now)) (args· .sound .now)
+    (loop· .s) (omega arith) (loop· .inv .1)
 
 pub all-within-spec : {M : Type 1} → statement M
 all-within-spec =
@@ -88,6 +95,10 @@ all-within-spec =
     loop-holds
     element-copy-out-if1
     mul-element-within
+    add-element-within
+    mul-element-within-2
+    shared-slice-read-element-within
+    cast-element-within
     element-within-requires
     returns
     add-s

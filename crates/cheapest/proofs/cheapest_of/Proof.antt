@@ -9,14 +9,19 @@ use Rattle.cheapest.proofs.cheapest_of.Statement.{statement}
 use Rattle.cheapest.proofs.cheapest_of.Tie as tie
 
 abbrev Inv-loop : tie.InvT-loop
-Inv-loop found n base link closed price count head next far load capacity sound elements links sets best₀ i₀ best i =
-    (i ≤ n) × (best ≡ bestOf found base link closed price far load capacity sound count elements links i)
+Inv-loop found n base link closed price count chain rating sound elements links sets best₀ i₀ best i =
+    (i ≤ n) × (best ≡ bestOf found base link closed price chain rating sound count elements links i)
 
 abbrev μ-loop : tie.MeasureT-loop
-μ-loop found n base link closed price count head next far load capacity sound elements links sets best₀ i₀ best i = n - i
+μ-loop found n base link closed price count chain rating sound elements links sets best₀ i₀ best i = n - i
 
 loop-holds : tie.Need-loop-holds Inv-loop μ-loop
-loop-holds c = (omega arith, no-turn (c .before .pre) (c .before .args .price .now))
+loop-holds c =
+    let a = c .before .args in (
+      omega arith,
+      no-turn (a .found .now) (a .base) (a .link .now) (a .closed .now) (a .price .now) (a .chain .now) (a .rating .now) (a .sound .now)
+          (a .count) (a .elements) (a .links),
+    )
 
 mul-set : tie.Need-mul-set Inv-loop μ-loop
 mul-set c = omega arith
@@ -40,9 +45,8 @@ with-set-requires c κs =
 all-within-requires : tie.Need-all-within-requires Inv-loop μ-loop
 all-within-requires c κs =
     let pre· = c .before .before .before .before .before .before .before .before .before .pre in
-    let loop· = c .before .before .before .before .before .before .before .loop in
     let with-set· = c .before .with-set in
-    asked pre· (loop· .i) (omega arith) (with-set· .result) (with-set· .ensures)
+    asked pre· _ (with-set· .result) (with-set· .ensures)
 
 add-i : tie.Need-add-i Inv-loop μ-loop
 add-i c = omega arith
@@ -52,30 +56,32 @@ loop-less c = omega arith
 
 loop-again : tie.Need-loop-again Inv-loop μ-loop
 loop-again c =
-    let pre· = c .before .before .before .before .before .before .before .pre in
-    let price = c .before .before .before .before .before .before .before .args .price .now in
+    let a = c .before .before .before .before .before .before .before .args in
     let sets· = c .before .before .before .before .before .before .sets in
     let loop· = c .before .before .before .before .before .loop in
     let cost· = c .before .before .price-of in
     let best = c .if1 .best in (
       omega arith,
       ⊎-elim
-          (λ w. cheaper-turn pre· price (loop· .i) (cost· .result) (loop· .best) best (omega (arith, sets· .given)) (loop· .inv .1) (cost· .ensures)
+          (λ w. cheaper-turn (a .found .now) (a .base) (a .link .now) (a .closed .now) (a .price .now) (a .chain .now) (a .rating .now) (a .sound .now)
+          (a .count) (a .elements) (a .links) (loop· .i) (cost· .result) (loop· .best) best (omega (arith, sets· .given)) (loop· .inv .1) (cost· .ensures)
           (w .1 .result) (w .3 .result) (w .1 .ensures) (w .3 .ensures) (omega arith) (w .4 .taken) (w .5))
           (⊎-elim
-          (λ w. failed-turn pre· price (loop· .i) (cost· .result) (loop· .best) best (omega (arith, sets· .given)) (loop· .inv .1) (cost· .ensures)
+          (λ w. failed-turn (a .found .now) (a .base) (a .link .now) (a .closed .now) (a .price .now) (a .chain .now) (a .rating .now) (a .sound .now)
+          (a .count) (a .elements) (a .links) (loop· .i) (cost· .result) (loop· .best) best (omega (arith, sets· .given)) (loop· .inv .1) (cost· .ensures)
           (w .1 .result) (w .3 .result) (w .1 .ensures) (w .3 .ensures) (omega arith) (w .4 .left) (w .5))
-          (λ w. dear-turn pre· price (loop· .i) (cost· .result) (loop· .best) best (omega (arith, sets· .given)) (loop· .inv .1) (cost· .ensures)
+          (λ w. dear-turn (a .found .now) (a .base) (a .link .now) (a .closed .now) (a .price .now) (a .chain .now) (a .rating .now) (a .sound .now)
+          (a .count) (a .elements) (a .links) (loop· .i) (cost· .result) (loop· .best) best (omega (arith, sets· .given)) (loop· .inv .1) (cost· .ensures)
           (omega arith) (w .1)))
           (c .if1 .came),
     )
 
 returns : tie.Need-returns Inv-loop μ-loop
 returns c =
-    let pre· = c .before .before .before .pre in
-    let price = c .before .before .before .args .price .now in
+    let a = c .before .before .before .args in
     let loop· = c .before .loop in
-    all-turns pre· price (loop· .i) (loop· .best) (omega arith) (loop· .inv .1)
+    all-turns (a .found .now) (a .base) (a .link .now) (a .closed .now) (a .price .now) (a .chain .now) (a .rating .now) (a .sound .now)
+    (a .count) (a .elements) (a .links) (loop· .i) (a .n) (loop· .best) (omega arith) (loop· .inv .1)
 
 pub cheapest-of-spec : {M : Type 1} → statement M
 cheapest-of-spec =

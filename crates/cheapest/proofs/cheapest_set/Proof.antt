@@ -1,7 +1,8 @@
 -- `cheapest_set` gives the first cheapest of all sets that work: its calls gather the candidates and the lists that the scan needs.
 -- Assumes nothing.
-use Rattle.safety.proofs.Networks.{two-ends}
-use Rattle.cheapest.proofs.Works.{switches-asked, switches-are, gathered, scanning, cheapest-is}
+use mathlib.Core.Path.{sym}
+use Rattle.restoration.proofs.Reach.{bits-long}
+use Rattle.cheapest.proofs.Works.{switches-asked, switches-are, switches-reach, gathered, scanning, cheapest-is}
 use borrow.Author.Needs.{needs}
 use Rattle.cheapest.proofs.cheapest_set.Statement.{statement}
 use Rattle.cheapest.proofs.cheapest_set.Tie as tie
@@ -48,47 +49,61 @@ slice-aggregate-members-of-2 c = search needs
 members-of-requires-2 : tie.Need-members-of-requires-2
 members-of-requires-2 c κs = search needs
 
-slice-aggregate-own-ends : tie.Need-slice-aggregate-own-ends
-slice-aggregate-own-ends c = search needs
-
-slice-aggregate-own-ends-2 : tie.Need-slice-aggregate-own-ends-2
-slice-aggregate-own-ends-2 c = search needs
-
-own-ends-requires : tie.Need-own-ends-requires
-own-ends-requires c κs =
-    let args· = c .before .before .before .before .before .before .before .before .before .before .before .before .before .before .before .before .before .before .before .before .before .args in
+closable-ends-requires : tie.Need-closable-ends-requires
+closable-ends-requires c κs =
     let pre· = c .before .before .before .before .before .before .before .before .before .before .before .before .before .before .before .before .before .before .before .before .before .pre in
-    two-ends (args· .net) (pre· .0)
+    let args· = c .before .before .before .before .before .before .before .before .before .before .before .before .before .before .before .before .before .before .before .before .before .args in
+    let operable-switches· = c .before .before .before .before .before .before .before .before .before .before .before .before .before .before .before .before .before .before .before .before .operable-switches in
+    let switches-of· = c .before .before .before .before .before .before .before .before .before .before .before .before .before .before .before .before .before .before .switches-of in
+    let except· = c .before .before .before .before .before .before .except in
+    (pre· .0, (switches-reach (args· .net) (pre· .0) (operable-switches· .ensures) (pre· .1) (switches-of· .ensures), bits-long _ _ _ (except· .ensures)))
+
+slice-aggregate-packed-rating : tie.Need-slice-aggregate-packed-rating
+slice-aggregate-packed-rating c =
+    let pre· = c .before .before .before .before .before .before .before .before .before .before .before .before .before .before .before .before .before .before .before .before .before .before .before .pre in
+    sym (pre· .0 .load-long)
+
+slice-aggregate-packed-rating-2 : tie.Need-slice-aggregate-packed-rating-2
+slice-aggregate-packed-rating-2 c =
+    let pre· = c .before .before .before .before .before .before .before .before .before .before .before .before .before .before .before .before .before .before .before .before .before .before .before .before .pre in
+    sym (pre· .0 .capacity-long)
+
+packed-rating-requires : tie.Need-packed-rating-requires
+packed-rating-requires c κs =
+    let pre· = c .before .before .before .before .before .before .before .before .before .before .before .before .before .before .before .before .before .before .before .before .before .before .before .before .pre in
+    (pre· .0 .load-long, pre· .0 .capacity-long)
 
 cheapest-of-requires : tie.Need-cheapest-of-requires
 cheapest-of-requires c κs =
-    let args· = c .before .before .before .before .before .before .before .before .before .before .before .before .before .before .before .before .before .before .before .before .before .before .before .before .before .before .before .before .before .before .before .before .before .before .before .before .before .before .args in
-    let pre· = c .before .before .before .before .before .before .before .before .before .before .before .before .before .before .before .before .before .before .before .before .before .before .before .before .before .before .before .before .before .before .before .before .before .before .before .before .before .before .pre in
-    let operable-switches· = c .before .before .before .before .before .before .before .before .before .before .before .before .before .before .before .before .before .before .before .before .before .before .before .before .before .before .before .before .before .before .before .before .before .before .before .before .before .operable-switches in
-    let switches-of· = c .before .before .before .before .before .before .before .before .before .before .before .before .before .before .before .before .before .before .before .before .before .before .before .before .before .before .before .before .before .before .before .before .before .before .before .switches-of in
-    let list-candidates· = c .before .before .before .before .before .before .before .before .before .before .before .before .before .before .before .before .before .before .before .before .before .before .before .before .before .before .before .before .before .before .before .before .list-candidates in
-    let members-of· = c .before .before .before .before .before .before .before .before .before .before .before .before .before .before .before .before .before .before .before .before .before .before .before .before .members-of in
-    let except· = c .before .before .before .before .before .before .before .before .before .before .before .before .before .before .before .before .before .before .before .before .before .except in
-    let members-of2· = c .before .before .before .before .before .before .before .before .before .before .before .before .before .before .before .before .before .before .before .members-of2 in
-    let own-ends· = c .before .before .before .before .before .before .before .before .before .before .before .before .before .before .before .before .own-ends in
+    let args· = c .before .before .before .before .before .before .before .before .before .before .before .before .before .before .before .before .before .before .before .before .before .before .before .before .before .before .before .before .before .before .before .before .args in
+    let pre· = c .before .before .before .before .before .before .before .before .before .before .before .before .before .before .before .before .before .before .before .before .before .before .before .before .before .before .before .before .before .before .before .before .pre in
+    let operable-switches· = c .before .before .before .before .before .before .before .before .before .before .before .before .before .before .before .before .before .before .before .before .before .before .before .before .before .before .before .before .before .before .before .operable-switches in
+    let switches-of· = c .before .before .before .before .before .before .before .before .before .before .before .before .before .before .before .before .before .before .before .before .before .before .before .before .before .before .before .before .before .switches-of in
+    let list-candidates· = c .before .before .before .before .before .before .before .before .before .before .before .before .before .before .before .before .before .before .before .before .before .before .before .before .before .before .list-candidates in
+    let members-of· = c .before .before .before .before .before .before .before .before .before .before .before .before .before .before .before .before .before .before .before .before .members-of in
+    let except· = c .before .before .before .before .before .before .before .before .before .before .before .before .before .before .before .before .before .except in
+    let members-of2· = c .before .before .before .before .before .before .before .before .before .before .before .before .before .before .before .members-of2 in
+    let closable-ends· = c .before .before .before .before .before .before .before .before .before .before .closable-ends in
+    let packed-rating· = c .before .before .before .before .before .before .before .packed-rating in
     scanning (args· .net) (pre· .0) (pre· .1)
-    (gathered (args· .net) (pre· .0) (operable-switches· .ensures) (switches-of· .ensures) (list-candidates· .ensures)
-    (members-of· .ensures) (except· .ensures) (members-of2· .ensures) (own-ends· .ensures))
+    (gathered (args· .net) (pre· .0) (operable-switches· .ensures) (pre· .1) (switches-of· .ensures) (list-candidates· .ensures)
+    (members-of· .ensures) (except· .ensures) (members-of2· .ensures) (closable-ends· .ensures) (packed-rating· .ensures))
 
 returns : tie.Need-returns
 returns c =
-    let args· = c .before .before .before .before .before .before .before .before .before .before .before .before .before .before .before .before .before .before .before .before .before .before .before .before .before .before .before .before .before .before .before .before .before .before .before .before .before .before .before .args in
-    let pre· = c .before .before .before .before .before .before .before .before .before .before .before .before .before .before .before .before .before .before .before .before .before .before .before .before .before .before .before .before .before .before .before .before .before .before .before .before .before .before .before .pre in
-    let operable-switches· = c .before .before .before .before .before .before .before .before .before .before .before .before .before .before .before .before .before .before .before .before .before .before .before .before .before .before .before .before .before .before .before .before .before .before .before .before .before .before .operable-switches in
-    let switches-of· = c .before .before .before .before .before .before .before .before .before .before .before .before .before .before .before .before .before .before .before .before .before .before .before .before .before .before .before .before .before .before .before .before .before .before .before .before .switches-of in
-    let list-candidates· = c .before .before .before .before .before .before .before .before .before .before .before .before .before .before .before .before .before .before .before .before .before .before .before .before .before .before .before .before .before .before .before .before .before .list-candidates in
-    let members-of· = c .before .before .before .before .before .before .before .before .before .before .before .before .before .before .before .before .before .before .before .before .before .before .before .before .before .members-of in
-    let except· = c .before .before .before .before .before .before .before .before .before .before .before .before .before .before .before .before .before .before .before .before .before .before .except in
-    let members-of2· = c .before .before .before .before .before .before .before .before .before .before .before .before .before .before .before .before .before .before .before .before .members-of2 in
-    let own-ends· = c .before .before .before .before .before .before .before .before .before .before .before .before .before .before .before .before .before .own-ends in
+    let args· = c .before .before .before .before .before .before .before .before .before .before .before .before .before .before .before .before .before .before .before .before .before .before .before .before .before .before .before .before .before .before .before .before .before .args in
+    let pre· = c .before .before .before .before .before .before .before .before .before .before .before .before .before .before .before .before .before .before .before .before .before .before .before .before .before .before .before .before .before .before .before .before .before .pre in
+    let operable-switches· = c .before .before .before .before .before .before .before .before .before .before .before .before .before .before .before .before .before .before .before .before .before .before .before .before .before .before .before .before .before .before .before .before .operable-switches in
+    let switches-of· = c .before .before .before .before .before .before .before .before .before .before .before .before .before .before .before .before .before .before .before .before .before .before .before .before .before .before .before .before .before .before .switches-of in
+    let list-candidates· = c .before .before .before .before .before .before .before .before .before .before .before .before .before .before .before .before .before .before .before .before .before .before .before .before .before .before .before .list-candidates in
+    let members-of· = c .before .before .before .before .before .before .before .before .before .before .before .before .before .before .before .before .before .before .before .before .before .members-of in
+    let except· = c .before .before .before .before .before .before .before .before .before .before .before .before .before .before .before .before .before .before .except in
+    let members-of2· = c .before .before .before .before .before .before .before .before .before .before .before .before .before .before .before .before .members-of2 in
+    let closable-ends· = c .before .before .before .before .before .before .before .before .before .before .before .closable-ends in
+    let packed-rating· = c .before .before .before .before .before .before .before .before .packed-rating in
     cheapest-is (args· .net) (pre· .0) (pre· .1)
-    (gathered (args· .net) (pre· .0) (operable-switches· .ensures) (switches-of· .ensures) (list-candidates· .ensures)
-    (members-of· .ensures) (except· .ensures) (members-of2· .ensures) (own-ends· .ensures))
+    (gathered (args· .net) (pre· .0) (operable-switches· .ensures) (pre· .1) (switches-of· .ensures) (list-candidates· .ensures)
+    (members-of· .ensures) (except· .ensures) (members-of2· .ensures) (closable-ends· .ensures) (packed-rating· .ensures))
     (c .cheapest-of .ensures)
 
 pub cheapest-set-spec : {M : Type 1} → statement M
@@ -107,8 +122,9 @@ cheapest-set-spec =
     except-requires
     slice-aggregate-members-of-2
     members-of-requires-2
-    slice-aggregate-own-ends
-    slice-aggregate-own-ends-2
-    own-ends-requires
+    closable-ends-requires
+    slice-aggregate-packed-rating
+    slice-aggregate-packed-rating-2
+    packed-rating-requires
     cheapest-of-requires
     returns)

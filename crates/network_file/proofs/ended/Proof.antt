@@ -14,14 +14,14 @@ enum-known-reached-2 : tie.Need-enum-known-reached-2
 enum-known-reached-2 c = search needs
 
 returns : tie.Need-returns
-returns c = rw (
+returns c = rw (c .before .reached .given .1)
+
+returns-2 : tie.Need-returns-2
+returns-2 c = rw (
   c .before .before .reached2 .given .1,
   lt-ltb (c .before .before .reached2 .given .0 .0)
       (length (c .before .before .before .before .args .s .now)) (omega arith),
 )
-
-returns-2 : tie.Need-returns-2
-returns-2 c = rw (c .before .reached .given .1)
 
 returns-3 : tie.Need-returns-3
 returns-3 c = rw (
@@ -32,4 +32,4 @@ returns-3 c = rw (
 
 pub ended-spec : {M : Type 1} → statement M
 ended-spec =
-    tie.close (tie.spec enum-known-reached enum-known-reached-2 returns returns-2 returns-3)
+    tie.close (tie.spec enum-known-reached returns enum-known-reached-2 returns-2 returns-3)

@@ -48,7 +48,7 @@ read-network-spec =
     network-file-requires
     ended-requires
     enum-told
+    returns
     enum-told-2
     empty-requires
-    returns
     returns-2)

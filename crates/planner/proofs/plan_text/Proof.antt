@@ -1,7 +1,7 @@
 -- The lines of the outcome's reply are put in front.
 -- Assumes nothing.
 use native.Mathlib.Omega.{arith}
-use Rattle.planner.specs.Replies.{outcome}
+use Rattle.outcomes.specs.Outcomes.{outcome}
 use Rattle.planner.proofs.Cases.{plan-printed, none-printed, refused-printed}
 use Rattle.planner.proofs.Promises.{printed-kept}
 use borrow.Author.Needs.{needs}
@@ -38,10 +38,10 @@ refused-line-requires c κs =
 
 returns : tie.Need-returns
 returns c =
-    let args· = c .before .before .before .before .before .before .before .before .args in
-    let shared-slice-known· = c .before .before .before .before .before .before .before .shared-slice-known in
-    let answer· = c .before .before .before .before .before .before .answer in
-    let reply· = c .before .before .before .before .reply in
+    let args· = c .before .before .before .before .before .before .before .args in
+    let shared-slice-known· = c .before .before .before .before .before .before .shared-slice-known in
+    let answer· = c .before .before .before .before .before .answer in
+    let reply· = c .before .before .before .reply in
     printed-kept (args· .s .now) (λ i. omega (arith, shared-slice-known· .given i)) (args· .out .now) _ (plan-printed (outcome (args· .s .now)) (answer· .result) (answer· .ensures) _ (reply· .given .1)) (c .plan-lines .ensures)
 
 returns-2 : tie.Need-returns-2

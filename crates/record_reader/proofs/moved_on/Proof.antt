@@ -46,4 +46,4 @@ returns-2 c =
     moved-is _ _ at _ (sym (c .before .found .given .1) ∙ c .before .before .before .due-at .ensures) _ refl (omega arith)
 
 pub moved-on-spec : {M : Type 1} → statement M
-moved-on-spec = tie.close (tie.spec due-at-requires enum-told enum-known-found cast-after add-after returns returns-2)
+moved-on-spec = tie.close (tie.spec due-at-requires enum-told returns enum-known-found cast-after add-after returns-2)

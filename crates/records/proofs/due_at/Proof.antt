@@ -1,7 +1,6 @@
 -- `records::due_at` finds rules 1 to 12 in their order: the record reader, then the rules of the kind.
 -- Assumes nothing.
-use mathlib.Core.Path.{_≡_, refl, ap, sym, _∙_}
-use native.Mathlib.Omega.{arith}
+use mathlib.Core.Path.{sym, _∙_}
 use Rattle.records.proofs.Due.{frame-kept, due-frame-refused}
 use Rattle.records.proofs.Reader.{due-decided}
 use borrow.Author.Needs.{needs}
@@ -66,7 +65,7 @@ due-at-spec =
     returns
     field-rules-requires
     enum-told-2
+    returns-2
     enum-known-verdict
     refused-requires
-    returns-2
     returns-3)

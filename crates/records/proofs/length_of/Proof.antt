@@ -1,7 +1,7 @@
 -- `records::length_of` gives each kind its length, and 0 to a number that is no kind.
 -- Assumes nothing.
 use borrow.Author.Tests.{ne-eqb}
-use Rattle.records.specs.Records.{lengthOf}
+use Rattle.fields.specs.Fields.{lengthOf}
 use Rattle.records.proofs.length_of.Statement.{statement}
 use Rattle.records.proofs.length_of.Tie as tie
 

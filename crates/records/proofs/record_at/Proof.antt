@@ -1,8 +1,6 @@
 -- `records::record_at` finds rules 1 to 4 in their order: each return is one law of Reader.
 -- Assumes nothing.
-use mathlib.Core.Path.{_≡_, refl, ap, sym, _∙_}
-use Rattle.records.specs.Records.{word}
-use Rattle.stages.specs.Stages.{nextStage}
+use mathlib.Core.Path.{refl, _∙_}
 use Rattle.records.proofs.Reader.{missing, out-of-place, wrong-length, cut-off, whole}
 use native.Mathlib.Omega.{arith}
 use borrow.Author.Needs.{needs}

@@ -1,7 +1,7 @@
 -- The numbers are those of the mark that `mark_of` gives.
 -- Assumes nothing.
-use mathlib.Core.Path.{_≡_, sym, ap, _∙_}
-use Rattle.tamchuwe.specs.Values.{markKind, markValues}
+use mathlib.Core.Path.{ap, _∙_}
+use Rattle.host_values.specs.Values.{markKind, markValues}
 use borrow.Author.Needs.{needs}
 use Rattle.tamchuwe.proofs.tamchuwe_mark.Statement.{statement}
 use Rattle.tamchuwe.proofs.tamchuwe_mark.Tie as tie

@@ -1,7 +1,7 @@
 -- The numbers are those of the reply that `plan_into` gives.
 -- Assumes nothing.
-use mathlib.Core.Path.{_≡_, sym, ap, _∙_}
-use Rattle.tamchuwe.specs.Values.{replyKind, replyValues}
+use mathlib.Core.Path.{ap, _∙_}
+use Rattle.host_values.specs.Values.{replyKind, replyValues}
 use borrow.Author.Needs.{needs}
 use Rattle.tamchuwe.proofs.tamchuwe_plan.Statement.{statement}
 use Rattle.tamchuwe.proofs.tamchuwe_plan.Tie as tie

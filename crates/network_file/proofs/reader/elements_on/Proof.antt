@@ -30,12 +30,12 @@ after-last-requires c κs = tt
 
 links-on-requires : tie.Need-links-on-requires
 links-on-requires c κs =
-    let args = c .before .before .before .before .before .before .before .before .args in
-    let read-elements = c .before .before .before .before .before .read-elements in
-    let word-at = c .before .before .before .before .before .before .word-at in
-    let pre = c .before .before .before .before .before .before .before .before .pre in
+    let args = c .before .before .before .before .before .before .before .args in
+    let read-elements = c .before .before .before .before .read-elements in
+    let word-at = c .before .before .before .before .before .word-at in
+    let pre = c .before .before .before .before .before .before .before .pre in
     let l = elements-leave (args .s .now) (args .at) (args .stage) (read-elements .result) _ _ (rw (word-at .ensures) at (read-elements .ensures))
-    (c .before .before .before .reached .given .1) (pre .3) in (pre .0, omega (arith, l .0, pre .2), c .after-last .ensures ∙ l .1)
+    (c .before .before .reached .given .1) (pre .3) in (pre .0, omega (arith, l .0, pre .2), c .after-last .ensures ∙ l .1)
 
 returns : tie.Need-returns
 returns c =
@@ -46,10 +46,10 @@ returns c =
 
 returns-2 : tie.Need-returns-2
 returns-2 c =
-    let args = c .before .before .before .before .before .before .before .before .before .args in
-    let read-elements = c .before .before .before .before .before .before .read-elements in
-    let word-at = c .before .before .before .before .before .before .before .word-at in
-    let reached = c .before .before .before .before .reached in
+    let args = c .before .before .before .before .before .before .before .before .args in
+    let read-elements = c .before .before .before .before .before .read-elements in
+    let word-at = c .before .before .before .before .before .before .word-at in
+    let reached = c .before .before .before .reached in
     c .links-on .ensures ∙ ap networkPart (rw (c .before .after-last .ensures)
     (elements-reached (args .s .now) (args .at) (args .stage) (read-elements .result) _ _ (rw (word-at .ensures) at (read-elements .ensures))
     (reached .given .1)))
@@ -62,8 +62,8 @@ elements-on-spec =
     cast-count
     read-elements-requires
     enum-told
+    returns
     enum-known-reached
     after-last-requires
     links-on-requires
-    returns
     returns-2)

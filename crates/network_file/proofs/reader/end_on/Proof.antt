@@ -58,8 +58,8 @@ end-on-spec =
     record-due-requires
     enum-known-found
     refused-network-requires
+    returns
     enum-known-found-2
     cast-after
     add-after
-    returns
     returns-2)

@@ -40,10 +40,10 @@ returns c =
 
 returns-2 : tie.Need-returns-2
 returns-2 c =
-    let args = c .before .before .before .before .before .before .before .before .before .args in
-    let read-links = c .before .before .before .before .before .before .read-links in
-    let word-at = c .before .before .before .before .before .before .before .word-at in
-    let reached = c .before .before .before .before .reached in
+    let args = c .before .before .before .before .before .before .before .before .args in
+    let read-links = c .before .before .before .before .before .read-links in
+    let word-at = c .before .before .before .before .before .before .word-at in
+    let reached = c .before .before .before .reached in
     c .end-on .ensures ∙ ap networkPart (rw (c .before .after-last .ensures)
     (links-reached (args .s .now) (args .at) (args .stage) (args .net) (read-links .result) _ _ (rw (word-at .ensures) at (read-links .ensures))
     (reached .given .1)))
@@ -56,8 +56,8 @@ links-on-spec =
     cast-count
     read-links-requires
     enum-told
+    returns
     enum-known-reached
     after-last-requires
     end-on-requires
-    returns
     returns-2)

@@ -57,8 +57,8 @@ network-file-spec =
     record-due-requires
     enum-known-found
     refused-network-requires
+    returns
     enum-known-found-2
     cast-elements-on
     elements-on-requires
-    returns
     returns-2)

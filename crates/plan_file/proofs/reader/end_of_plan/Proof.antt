@@ -58,8 +58,8 @@ end-of-plan-spec =
     record-due-requires
     enum-known-found
     refused-plan-requires
+    returns
     enum-known-found-2
     cast-after
     add-after
-    returns
     returns-2)

@@ -65,9 +65,9 @@ plan-file-spec =
     record-due-requires
     enum-known-found
     refused-plan-requires
+    returns
     enum-known-found-2
     cast-steps-on
     add-steps-on
     steps-on-requires
-    returns
     returns-2)

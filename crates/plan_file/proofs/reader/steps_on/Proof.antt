@@ -43,10 +43,10 @@ returns c =
 
 returns-2 : tie.Need-returns-2
 returns-2 c =
-    let args = c .before .before .before .before .before .before .before .before .before .args in
-    let read-steps = c .before .before .before .before .before .before .read-steps in
-    let word-at = c .before .before .before .before .before .before .before .word-at in
-    let reached = c .before .before .before .before .reached in
+    let args = c .before .before .before .before .before .before .before .before .args in
+    let read-steps = c .before .before .before .before .before .read-steps in
+    let word-at = c .before .before .before .before .before .before .word-at in
+    let reached = c .before .before .before .reached in
     c .end-of-plan .ensures ∙ ap planPart (rw (c .before .after-last .ensures)
     (steps-reached (args .s .now) (args .links) (args .head) (args .at) (args .stage) (read-steps .result) _ _
     (rw (word-at .ensures) at (read-steps .ensures)) (reached .given .1)))
@@ -60,8 +60,8 @@ steps-on-spec =
     cast-count
     read-steps-requires
     enum-told
+    returns
     enum-known-reached
     after-last-requires
     end-of-plan-requires
-    returns
     returns-2)

@@ -1,0 +1,36 @@
+-- The planner's reply and the judge's mark as numbers, for programs in other languages.
+-- Assumes nothing.
+use mathlib.Core.List.{List, [], _∷_}
+use Prim.Native.Nat.{ℕ}
+use Rattle.network.specs.Refusals.{ruleNumber}
+use Rattle.outcomes.specs.declared.Reply.{Reply}
+use Rattle.outcomes.specs.declared.Reply.the-variants as Reply·
+use Rattle.marking.specs.declared.Mark.{Mark}
+use Rattle.marking.specs.declared.Mark.the-variants.{Broken, Short, Valid, Refused}
+use Rattle.marking.specs.Marks.{reasonNumber}
+
+-- refused, plan, none
+unfoldable pub replyKind : Reply → ℕ
+replyKind (Reply·.Refused f) = 0
+replyKind (Reply·.Plan p) = 1
+replyKind (Reply·.NoPlan l) = 2
+
+-- refused: number and place; plan: steps, cost, and the loads of the LOAD line; none: these loads
+unfoldable pub replyValues : Reply → List ℕ
+replyValues (Reply·.Refused f) = ruleNumber (f .rule) ∷ f .place ∷ 0 ∷ 0 ∷ 0 ∷ []
+replyValues (Reply·.Plan p) = p .steps ∷ p .cost ∷ p .sums .fed ∷ p .sums .dark ∷ p .sums .lost ∷ []
+replyValues (Reply·.NoPlan l) = 0 ∷ 0 ∷ l .fed ∷ l .dark ∷ l .lost ∷ []
+
+-- refused, BROKEN, SHORT, VALID
+unfoldable pub markKind : Mark → ℕ
+markKind (Refused f) = 0
+markKind (Broken b) = 1
+markKind (Short e) = 2
+markKind (Valid v) = 3
+
+-- the two numbers of the mark's line; SHORT has one
+unfoldable pub markValues : Mark → List ℕ
+markValues (Refused f) = ruleNumber (f .rule) ∷ f .place ∷ []
+markValues (Broken b) = b .step ∷ reasonNumber (b .reason) ∷ []
+markValues (Short e) = e ∷ 0 ∷ []
+markValues (Valid v) = v .cost ∷ v .excess ∷ []

@@ -1,0 +1,135 @@
+-- Demands 1 and 2 as equivalences, and one answer for each: the outcome has three cases, and the promise of each refutes the other two.
+-- Assumes nothing.
+use mathlib.Core.Path.{_≡_, refl, sym, ap, _∙_, subst}
+use mathlib.Core.Bool.{Bool, true, false, false≢true}
+use mathlib.Core.List.{List}
+use mathlib.Core.Logic.{_⊎_, inl, inr}
+use Prim.Native.Nat.{ℕ, _≤_, _<_}
+use native.Mathlib.Omega.{arith}
+use lib.ListN.{getD, take}
+use lib.Dec.{ltb}
+use borrow.Author.Tests.{ltb-true, ltb-false}
+use Rattle.network.specs.declared.Network.{Network}
+use Rattle.network.specs.declared.refusal.Refusal.{Refusal}
+use Rattle.network_file.specs.declared.Answer.the-variants as Answer·
+use Rattle.network_file.specs.declared.NetworkRead.{NetworkRead}
+use Rattle.network_file.specs.Inputs.{networkRead}
+use Rattle.network_file.proofs.Decide.{network-decided}
+use Rattle.network_file.specs.Runs as Runs
+use Rattle.feeding.specs.Networks.{Net, netOf}
+use Rattle.feeding.specs.Plans.{Step, ValidPlan, costOf, printedForm}
+use Rattle.acceptance.specs.Reading.{acceptedRead, Admission, Accepts, Refuses}
+use Rattle.acceptance.proofs.Promises.{admission-only}
+use Rattle.planning.specs.Choosing.{Before, Promised, NoPlan}
+use Rattle.printed.specs.Printing.{stepsOf}
+use Rattle.sums.specs.declared.Sums.{Sums}
+use Rattle.outcomes.specs.declared.Planned.{Planned}
+use Rattle.outcomes.specs.declared.Reply.{Reply}
+use Rattle.outcomes.specs.declared.Reply.the-variants as Reply·
+use Rattle.outcomes.specs.Outcomes.{outcomeRead, outcomeAnswered, outcome}
+use Rattle.outcomes.proofs.Promises.{outcome-kept}
+
+-- ---- one judgement of the bytes
+
+admission-once : (s : List ℕ) (r r′ : NetworkRead) → Admission s r → Admission s r′ → r ≡ r′
+admission-once s r r′ j j′ = admission-only s r j ∙ sym (admission-only s r′ j′)
+
+accepted-once : (s : List ℕ) (n n′ : Network) → Accepts s n → Accepts s n′ → n ≡ n′
+accepted-once s n n′ a a′ = ap (λ (r : NetworkRead). r .net) (admission-once s _ _ a a′)
+
+accepted-unrefused : (s : List ℕ) (n : Network) (f : Refusal) → Accepts s n → ¬ Refuses s f
+accepted-unrefused s n f a r =
+    let same : Answer·.Accepted ≡ Answer·.Refused f = ap (λ (x : NetworkRead). x .answer) (admission-once s _ _ a r) in
+    let z : _≡_ {A = ℕ} 0 1 = cc in
+    absurd (omega arith)
+
+-- ---- exactly which outcome
+
+module _ (s : List ℕ) (bytes : (i : ℕ) → getD s i 0 < 256) where
+  -- "for an accepted network NONE is printed if and only if no such plan exists"
+  pub none-exactly : (n : Network) → Accepts s n
+      → (((l : Sums) × (outcome s .reply ≡ Reply·.NoPlan l)) → NoPlan (netOf n)) × (NoPlan (netOf n) → (l : Sums) × (outcome s .reply ≡ Reply·.NoPlan l))
+  none-exactly n a = (
+    λ h. let kept = outcome-kept s bytes .none (h .0) (h .1) in
+        subst (λ (m : Network). NoPlan (netOf m)) (accepted-once s (kept .net) n (kept .accepted) a) (kept .no-plan),
+    λ none. go none (outcome s .reply) refl,
+  )
+    where
+      go : NoPlan (netOf n) → (r : Reply) → outcome s .reply ≡ r → (l : Sums) × (outcome s .reply ≡ Reply·.NoPlan l)
+      go none (Reply·.Plan p) e =
+          let kept = outcome-kept s bytes .plan p e in
+          absurd (subst (λ (m : Network). NoPlan (netOf m)) (accepted-once s n (kept .net) a (kept .accepted)) none (stepsOf (outcome s .plan))
+          (kept .promised .valid))
+      go none (Reply·.NoPlan l) e = (l, e)
+      go none (Reply·.Refused f) e = absurd (accepted-unrefused s n f a (outcome-kept s bytes .refused f e))
+
+  -- "by demand 2 every accepted one that has a valid plan"
+  pub plan-exactly : (n : Network) → Accepts s n → (q : List Step) → ValidPlan (netOf n) q → (p : Planned) × (outcome s .reply ≡ Reply·.Plan p)
+  plan-exactly n a q v = go (outcome s .reply) refl
+    where
+      go : (r : Reply) → outcome s .reply ≡ r → (p : Planned) × (outcome s .reply ≡ Reply·.Plan p)
+      go (Reply·.Plan p) e = (p, e)
+      go (Reply·.NoPlan l) e = absurd (none-exactly n a .0 (l, e) q v)
+      go (Reply·.Refused f) e = absurd (accepted-unrefused s n f a (outcome-kept s bytes .refused f e))
+
+  -- demand 1: what breaks a rule is refused by its first broken rule, with its place, and nothing else is refused
+  pub refused-exactly : (f : Refusal) → (Refuses s f → outcome s .reply ≡ Reply·.Refused f) × (outcome s .reply ≡ Reply·.Refused f → Refuses s f)
+  unfolding outcome outcomeRead outcomeAnswered
+  refused-exactly f = (
+    λ r. ap (λ (x : NetworkRead). outcomeRead x .reply) (sym (admission-only s _ r)),
+    λ e. outcome-kept s bytes .refused f e,
+  )
+
+-- "the first 4,096 bytes decide"
+pub outcome-decided : (s : List ℕ) → outcome (take 4096 s) ≡ outcome s
+unfolding outcome
+outcome-decided s = ap (λ (o : Runs.Outcome Network). outcomeRead (acceptedRead (networkRead o))) (network-decided s)
+
+-- ---- one promised plan
+
+-- no two sets come before each other
+before-once : (D D′ : ℕ → Bool) → Before D D′ → ¬ Before D′ D
+before-once D D′ x y = go (ltb (x .at) (y .at)) refl (ltb (y .at) (x .at)) refl
+  where
+    go : (t : Bool) → ltb (x .at) (y .at) ≡ t → (u : Bool) → ltb (y .at) (x .at) ≡ u → ⊥
+    go true t _ _ = false≢true (sym (x .lacks) ∙ y .alike (x .at) (ltb-true (x .at) (y .at) t) ∙ x .has)
+    go false t true u = false≢true (sym (y .lacks) ∙ x .alike (y .at) (ltb-true (y .at) (x .at) u) ∙ y .has)
+    go false t false u = false≢true (sym (x .lacks) ∙ subst (λ (m : ℕ). D′ m ≡ true) meet (y .has))
+      where
+        meet : y .at ≡ x .at
+        meet = omega (arith, ltb-false (x .at) (y .at) t, ltb-false (y .at) (x .at) u)
+
+pub promised-unique : (net : Net) (p q : List Step) (a b : ℕ) → Promised net p a → Promised net q b → (a ≡ b) × (p ≡ q)
+promised-unique net p q a b x y = (
+  omega (arith, p-cost, q-cost, p-least, q-least),
+  x .form ∙ ap (printedForm net) same ∙ sym (y .form),
+)
+  where
+    D : ℕ → Bool
+    D = x .set
+
+    D′ : ℕ → Bool
+    D′ = y .set
+
+    p-cost : a ≡ costOf net p
+    p-cost = x .own
+
+    q-cost : b ≡ costOf net q
+    q-cost = y .own
+
+    p-least : a ≤ costOf net q
+    p-least = x .every q (y .valid) .at-least
+
+    q-least : b ≤ costOf net p
+    q-least = y .every p (x .valid) .at-least
+
+    alike : costOf net (printedForm net D′) ≡ costOf net (printedForm net D)
+    alike = ap (costOf net) (sym (y .form)) ∙ omega (arith, p-cost, q-cost, p-least, q-least) ∙ ap (costOf net) (x .form)
+
+    same : D ≡ D′
+    same = go (x .picked .first D′ (y .picked .restores) alike) (y .picked .first D (x .picked .restores) (sym alike))
+      where
+        go : (D ≡ D′) ⊎ Before D D′ → (D′ ≡ D) ⊎ Before D′ D → D ≡ D′
+        go (inl e) _ = e
+        go (inr _) (inl e) = sym e
+        go (inr f) (inr g) = absurd (before-once D D′ f g)

@@ -1,0 +1,4 @@
+pub mod Exactly
+pub mod Operating
+pub mod Promises
+pub mod Solving
