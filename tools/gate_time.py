@@ -1,10 +1,9 @@
 #!/usr/bin/env python3
 """gate_time.py LOG: what the gate's order costs, from the log of a run of `.ci/run` at the project's root; gate_time.py LOG --order: crates.txt in a better one.
 
-`rt` proves the crates level by level (a crate's level is one above the highest of those that it stands on), in the order of crates.txt, in batches of three, and
-waits for each batch; then it tries the edits in the same way. This adds up the batches on two processors for the times that the log names, for the order as it is and for falling
-times within each level, beside full use of both processors; an edit is counted as a whole check of its crate. The log's times should be those of a run with RT_JOBS=2, in
-which each job has a processor of its own."""
+`rt` proves the crates level by level (a crate's level is one above the highest of those that it stands on), in the order of crates.txt, two at a time, and
+waits for both; then it tries the edits in the same way. This adds up the pairs for the times that the log names, for the order as it is and for falling times
+within each level, beside full use of both processors; an edit is counted as a whole check of its crate."""
 import glob
 import re
 import sys
@@ -23,8 +22,8 @@ def level(name):
     return 1 + max((level(d) for d in crates[name] if d in crates), default=-1)
 
 
-def batches(seconds, jobs=3):
-    return sum(max(max(few), sum(few) // 2) for few in (seconds[i:i + jobs] for i in range(0, len(seconds), jobs)))
+def pairs(seconds):
+    return sum(max(seconds[i:i + 2]) for i in range(0, len(seconds), 2))
 
 
 levels = {}
@@ -36,7 +35,7 @@ if "--order" in sys.argv:
     sys.exit()
 edits = [times[c] for l in sorted(levels) for c in levels[l] for _ in glob.glob(f"crates/{c}/must-fail/*.edit")]
 for what, order in [("as it is", levels), ("by falling times", falling)]:
-    print(f"proofs, {what}: {sum(batches([times[c] for c in order[l]]) for l in order)} s of {sum(times[c] for c in crates) // 2}")
-print(f"edits: {batches(edits)} s of {sum(edits) // 2}")
+    print(f"proofs, {what}: {sum(pairs([times[c] for c in order[l]]) for l in order)} s of {sum(times[c] for c in crates) // 2}")
+print(f"edits: {pairs(edits)} s of {sum(edits) // 2}")
 for l in falling:
     print(l, ", ".join(f"{c} {times[c]}" for c in falling[l]))
