@@ -1,7 +1,7 @@
 /* Tamchuwe: the proved planner and judge for restoring radial feeders, as a static library for x86-64 Linux.
  *
  *     rt check tamchuwe && rt staticlib tamchuwe        (writes target/staticlib/libtamchuwe.a)
- *     cc -Iinclude yours.c target/staticlib/libtamchuwe.a
+ *     cc -Iinclude yours.c target/staticlib/libtamchuwe.a -o yours
  *
  * What each function answers and writes is proved for every input; the contracts stand in crates/tamchuwe/src/lib.rt. Not proved, because C is
  * outside the proofs: that the caller keeps what is asked here. Each pointer leads to as many bytes (or numbers) as the length beside it, or the
@@ -16,12 +16,12 @@
  *     link          12, 3, two different elements, form (0 fixed, 1 open switch, 2 closed switch), cost (0 for fixed, else 1 to 65535)
  *     end            4, 4
  *     plan head      6, 5, steps (0 to 255)
- *     step           8, 6, link, state wanted (0 open, 1 closed)
+ *     step           8, 6, link, state wanted (0 open, 1 closed: not the numbers of a link's form)
  * A network file is one head, its elements, its links, one end; a plan file one plan head, its steps, one end. Elements and links are numbered
  * from 0 in file order, steps from 1.
  *
  * REFUSALS. What breaks a rule is answered by the first that it breaks, with its number and a place. Rules 1 to 12 are asked of each record in
- * turn; their place is the offset of the record's first byte.
+ * turn; their place is the offset of the record's first byte, counted from the first byte of the input, in the plan file too.
  *      1 fewer than four bytes where a record is due      10 more than 255 steps
  *      2 a kind that may not come here                    11 a step's link does not exist
  *      3 not the kind's length                            12 a step's state above 1
@@ -32,7 +32,23 @@
  *      8 a form above 2                                   17 at the start an element loaded above its capacity (the lowest such)
  *      9 a cost that does not suit the form               18 more than 12 operable switches (their count)
  *                                                         19 the buffer is shorter than the plan file (the length needed)
- * A sound source is one that is not faulty. */
+ *
+ * TERMS (of the customer's document 01; crates/feeding/specs/ has them as definitions).
+ *     part          elements that closed links join; fixed links are always closed
+ *     sound source  a source that is not faulty
+ *     live          in a part with a sound source; else dark
+ *     load          at a live element: its own load and all that hangs behind it, seen from the source
+ *     safe          every part is a tree, none has two sound sources or a faulty element with a sound source, and no live element is loaded above its
+ *                   capacity
+ *     spoiled       faulty, or joined to a faulty element by fixed links alone
+ *     restorable    not spoiled, and links of any form or state join it, through unspoiled elements only, to an unspoiled source
+ *     operable      a switch with at least one end that is dark and restorable at the start
+ *     valid plan    steps that each operate an operable switch into the state that it has not, through safe configurations, after which every restorable
+ *                   element is live; a step costs what its switch's record states, at each operation
+ *
+ * LINES. The planner's: PLAN steps cost, then OPEN link or CLOSE link for each step, then LOAD fed dark lost; or NONE, then LOAD fed dark lost. The
+ * judge's: VALID cost excess, SHORT element or BROKEN step reason. Either's, where a rule is broken: REFUSED number place. Numbers are in base ten, one
+ * blank stands between fields, and each line ends with one line feed. What the numbers mean is said below, at the functions that answer them. */
 #ifndef TAMCHUWE_H
 #define TAMCHUWE_H
 

@@ -58,6 +58,6 @@ pub extern "C" fn tamchuwe_mark_text(input: &[u8], out: &mut [u8]) -> usize
     ensures { λ _. ⌜ now (out .exit) ≡ textIn (markLine (markFor (now (input .entry)))) (now (out .entry)) ⌝ }
 {
     let mut text: [u8; 4096] = [0; 4096];
-    let count = mark_text(input, &mut text);
-    put_if_it_fits(&text[..count], out)
+    let length = mark_text(input, &mut text);
+    put_if_it_fits(&text[..length], out)
 }
