@@ -1,14 +1,16 @@
 #!/usr/bin/env python3
-"""gate_time.py LOG: what the gate's order costs, from the log of a run of `.ci/run` at the project's root; gate_time.py LOG --order: crates.txt in a better one.
+"""gate_time.py LOG: what the gate's order costs, from the log of `(time .ci/run) > LOG 2>&1` at the project's root; gate_time.py LOG --order: crates.txt in a
+better one.
 
-`rt` proves the crates level by level (a crate's level is one above the highest of those that it stands on), in the order of crates.txt, two at a time, and
-waits for both; then it tries the edits in the same way. This adds up the pairs for the times that the log names, for the order as it is and for falling times
-within each level, beside full use of both processors; an edit is counted as a whole check of its crate."""
-import glob
+`rt` proves the crates level by level (a crate's level is one above the highest of those that it stands on), in the order of crates.txt, RT_JOBS at a time,
+and waits for each batch; then it tries the edits in the same way, crate by crate. This adds up the batches on two processors, from the seconds that the log
+names. The better order starts from falling times within each level and exchanges two crates of a level as long as that saves time."""
 import re
 import sys
 
-times = {m[1]: int(m[2]) for m in re.finditer(r"^rt: (\w+) proved \((\d+) s\)", open(sys.argv[1]).read(), re.M)}
+PROCESSORS = 2
+log = open(sys.argv[1]).read()
+times = {m[1]: int(m[2]) for m in re.finditer(r"^rt: (\w+) proved \((\d+) s\)", log, re.M)}
 crates, head = {}, []
 for line in open("crates.txt"):
     name, _, below = line.split("#")[0].partition(":")
@@ -16,26 +18,49 @@ for line in open("crates.txt"):
         crates[name.strip()] = below.split()
     else:
         head.append(line)
+edits = {c: [int(s) for s in re.findall(rf"^rt: must-fail {c}/.* (\d+) s\)$", log, re.M)] for c in crates}
 
 
 def level(name):
     return 1 + max((level(d) for d in crates[name] if d in crates), default=-1)
 
 
-def pairs(seconds):
-    return sum(max(seconds[i:i + 2]) for i in range(0, len(seconds), 2))
+def batches(seconds, jobs):
+    groups = [seconds[i:i + jobs] for i in range(0, len(seconds), jobs)]
+    return sum(max(max(g), sum(g) / PROCESSORS) for g in groups)
+
+
+def cost(order, jobs=2):
+    return sum(batches([times[c] for c in order[l]], jobs) for l in order), batches([s for l in order for c in order[l] for s in edits[c]], jobs)
+
+
+def better(order):
+    order = {l: sorted(order[l], key=lambda c: -times[c]) for l in order}
+    least, found = sum(cost(order)), True
+    while found:
+        found = False
+        for l in order:
+            for i in range(len(order[l])):
+                for j in range(i):
+                    order[l][i], order[l][j] = order[l][j], order[l][i]
+                    if sum(cost(order)) < least:
+                        least, found = sum(cost(order)), True
+                    else:
+                        order[l][i], order[l][j] = order[l][j], order[l][i]
+    return order
 
 
 levels = {}
 for name in crates:
     levels.setdefault(level(name), []).append(name)
-falling = {l: sorted(levels[l], key=lambda c: -times[c]) for l in sorted(levels)}
+levels = {l: levels[l] for l in sorted(levels)}
 if "--order" in sys.argv:
-    sys.stdout.writelines(head + [(c + ": " + " ".join(crates[c])).rstrip() + "\n" for l in falling for c in falling[l]])
+    best = better(levels)
+    sys.stdout.writelines(head + [(c + ": " + " ".join(crates[c])).rstrip() + "\n" for l in best for c in best[l]])
     sys.exit()
-edits = [times[c] for l in sorted(levels) for c in levels[l] for _ in glob.glob(f"crates/{c}/must-fail/*.edit")]
-for what, order in [("as it is", levels), ("by falling times", falling)]:
-    print(f"proofs, {what}: {sum(pairs([times[c] for c in order[l]]) for l in order)} s of {sum(times[c] for c in crates) // 2}")
-print(f"edits: {pairs(edits)} s of {sum(edits) // 2}")
-for l in falling:
-    print(l, ", ".join(f"{c} {times[c]}" for c in falling[l]))
+for what, order in [("as it is", levels), ("better", better(levels))]:
+    for jobs in (2, 3, 4):
+        print("%s, %d jobs: proofs %.0f s, edits %.0f s" % (what, jobs, *cost(order, jobs)))
+print(f"both processors always busy: proofs {sum(times.values()) / 2:.0f} s, edits {sum(sum(e) for e in edits.values()) / 2:.0f} s")
+for l in levels:
+    print(l, ", ".join(f"{c} {times[c]}" for c in levels[l]))

@@ -41,7 +41,8 @@ use Rattle.holdings.specs.Holdings.{waitingAt, holdingsOf}
 use Rattle.switches.specs.declared.Switches.{Switches}
 use Rattle.switches.specs.Switches.{switchList}
 use Rattle.switches.proofs.States as States
-use Rattle.candidates.specs.Searching.{switching, listedIn, candidatesOf, Searches}
+use Rattle.search.specs.Searching.{switching, listedIn, Searches}
+use Rattle.candidates.specs.Candidates.{candidatesOf}
 
 -- what the calls return, before the search is started
 pub record Started (n : Network) (operable closed base : List ℕ) (parts : Parts) (sound faulty restorable live fault need holds : List ℕ) (total : ℕ)

@@ -37,7 +37,7 @@ use Rattle.planning.proofs.Scans.{scan-passing, scan-ext, works-candidate}
 use Rattle.switches.specs.declared.Switches.{Switches}
 use Rattle.switches.specs.Switches.{SwitchReach, switchList}
 use Rattle.switches.proofs.States.{length-states, states-within, members-operables, link-reach, states-flipped, price-set}
-use Rattle.candidates.specs.Searching.{candidatesOf}
+use Rattle.candidates.specs.Candidates.{candidatesOf}
 use Rattle.candidates.proofs.Starting.{candidates-fit}
 use Rattle.packing.specs.Packing.{packedEnds, packedRating, headOf, nextOf, farOf, loadOf, capacityOf, packedGrid}
 use Rattle.capacity.proofs.Grids.{within-same}

@@ -1,14 +1,12 @@
 // Random networks of many shapes, for the programs that hold the planner and the judge to the enumeration. Its functions are proved safe and promise
 // nothing else.
-pub mod draw;
-
-use draw::draw;
-use draw::happens;
+use draws::draw;
+use draws::happens;
 use surveys::Network;
 use surveys::add;
 use surveys::at;
-use surveys::broken_in;
-use surveys::links_where;
+use surveys::broken_at_start;
+use surveys::min;
 use surveys::opening;
 use surveys::put;
 
@@ -34,10 +32,12 @@ struct Shape {
     room: usize,
 }
 
-// A network begun, and how many switches at dark elements are left.
-struct Begun {
-    net: Network,
-    left: usize,
+// Numbers drawn one after the other.
+struct Numbers {
+    a: usize,
+    b: usize,
+    c: usize,
+    d: usize,
 }
 
 fn empty() -> Network {
@@ -55,31 +55,61 @@ fn empty() -> Network {
 }
 
 fn with_element(net: Network, flags: usize, load: usize, capacity: usize) -> Network {
-    let mut more = net;
     let x = net.elements;
-    if x < 64 {
-        more.flags[x] = flags;
-        more.load[x] = load;
-        more.capacity[x] = capacity;
-        more.elements = x + 1;
+    if 64 <= x {
+        return net;
     }
+    let mut more = net;
+    more.flags[x] = flags;
+    more.load[x] = load;
+    more.capacity[x] = capacity;
+    more.elements = x + 1;
     more
 }
 
-// A link more, unless its ends are equal or one is missing.
+fn are_two(elements: usize, a: usize, b: usize) -> bool {
+    a != b && a < elements && b < elements
+}
+
+// A link more, unless its ends are equal or one is missing; a fixed one costs nothing.
 fn with_link(net: Network, a: usize, b: usize, form: usize, cost: usize) -> Network {
-    let mut more = net;
     let k = net.links;
-    if k < 96 && a != b && a < net.elements && b < net.elements {
-        more.from[k] = a;
-        more.to[k] = b;
-        more.form[k] = form;
-        if form != 0 {
-            more.cost[k] = cost;
-        }
-        more.links = k + 1;
+    if 96 <= k {
+        return net;
     }
+    if !are_two(net.elements, a, b) {
+        return net;
+    }
+    let mut more = net;
+    more.from[k] = a;
+    more.to[k] = b;
+    more.form[k] = form;
+    more.links = k + 1;
+    if form == 0 {
+        return more;
+    }
+    more.cost[k] = cost;
     more
+}
+
+// Four numbers, each below its bound.
+fn four(seed: &mut usize, a: usize, b: usize, c: usize, d: usize) -> Numbers {
+    Numbers {
+        a: draw(seed, a),
+        b: draw(seed, b),
+        c: draw(seed, c),
+        d: draw(seed, d),
+    }
+}
+
+// Three numbers below 16.
+fn three(seed: &mut usize) -> Numbers {
+    Numbers {
+        a: draw(seed, 16),
+        b: draw(seed, 16),
+        c: draw(seed, 16),
+        d: 0,
+    }
 }
 
 // A number from `low` on and below `high`, or `high` where there is none.
@@ -90,9 +120,8 @@ fn drawn_from(seed: &mut usize, low: usize, high: usize) -> usize {
     high
 }
 
-// Flags of an element that is drawn freely.
-fn any_flags(seed: &mut usize) -> usize {
-    let d = draw(seed, 32);
+// Flags of an element that is drawn freely, by a number below 32.
+fn any_flags(d: usize) -> usize {
     if d < 6 {
         return 1;
     }
@@ -105,9 +134,8 @@ fn any_flags(seed: &mut usize) -> usize {
     0
 }
 
-// The form of a free link: 0 fixed, 1 open, 2 closed.
-fn any_form(seed: &mut usize) -> usize {
-    let d = draw(seed, 16);
+// The form of a free link, by a number below 16: 0 fixed, 1 open, 2 closed.
+fn any_form(d: usize) -> usize {
     if d < 2 {
         return 0;
     }
@@ -122,68 +150,82 @@ fn clash(a: usize, b: usize) -> bool {
     (a == 1 && b != 0) || (a == 2 && b == 1)
 }
 
-// The form of the link that hangs x, which holds `own`, on p: open instead where it would join what it must not and `careless` is 0. Where it is not
-// open, x goes to the part of p. `part` has each element's part, and `holds` what the part holds.
-fn hung(
-    part: &mut [usize; 96],
-    holds: &mut [usize; 96],
-    x: usize,
-    p: usize,
-    own: usize,
-    form: usize,
-    careless: usize,
-) -> usize {
-    let other = at(part, p);
-    if form == 1 || (clash(at(holds, other), own) && careless == 0) {
+// What a link of the form given becomes that hangs what holds `own` on a part that holds `held`: open, where it would join what it must not and
+// `careless` is 0.
+fn hung_form(form: usize, held: usize, own: usize, careless: usize) -> usize {
+    if careless == 0 && clash(held, own) {
         return 1;
-    }
-    put(part, x, other);
-    if own != 0 {
-        put(holds, other, own);
     }
     form
 }
 
-// An element more, of any flags, with a link to an earlier one or none.
-fn with_any(
+// In `parts` stands each element's part at its number, and 48 behind what the part holds; x begins a part.
+fn begin_part(parts: &mut [usize; 96], x: usize, own: usize) {
+    put(parts, x, x);
+    put(parts, add(x, 48), own);
+}
+
+// The form of the link that hangs x, which holds `own`, on a part. Where it is not open, x goes to the part.
+fn hung(
+    parts: &mut [usize; 96],
+    x: usize,
+    part: usize,
+    own: usize,
+    form: usize,
+    careless: usize,
+) -> usize {
+    let kept = hung_form(form, at(parts, add(part, 48)), own, careless);
+    if kept == 1 {
+        return 1;
+    }
+    put(parts, x, part);
+    if own != 0 {
+        put(parts, add(part, 48), own);
+    }
+    kept
+}
+
+// The last element, x, which holds `own`, gets a link to p or none.
+fn with_any_link(
     net: Network,
     seed: &mut usize,
     careless: usize,
-    part: &mut [usize; 96],
-    holds: &mut [usize; 96],
+    parts: &mut [usize; 96],
+    x: usize,
+    p: usize,
+    own: usize,
 ) -> Network {
-    let x = net.elements;
-    let flags = any_flags(seed);
-    let load = draw(seed, 5);
-    let grown = with_element(net, flags, load, 2 + draw(seed, 14));
-    let p = draw(seed, x);
-    let form = any_form(seed);
-    let cost = 1 + draw(seed, 4);
-    let own = if 1 < flags { 2 } else { flags };
-    put(part, x, x);
-    put(holds, x, own);
+    let form = any_form(draw(seed, 16));
+    let cost = draw(seed, 4);
     if happens(seed, 1) {
-        return grown;
+        return net;
     }
-    with_link(
-        grown,
-        p,
-        x,
-        hung(part, holds, x, p, own, form, careless),
-        cost,
-    )
+    let part = at(parts, p);
+    let kept = hung(parts, x, part, own, form, careless);
+    with_link(net, p, x, kept, cost + 1)
+}
+
+// An element more, of any flags, with a link to an earlier one or none.
+fn with_any(net: Network, seed: &mut usize, careless: usize, parts: &mut [usize; 96]) -> Network {
+    let d = four(seed, 32, 5, 14, net.elements);
+    let flags = any_flags(d.a);
+    let own = min(flags, 2);
+    begin_part(parts, net.elements, own);
+    let grown = with_element(net, flags, d.b, add(d.c, 2));
+    with_any_link(grown, seed, careless, parts, net.elements, d.d, own)
 }
 
 // A link more between any two elements; closed only where `careless` is not 0.
 fn with_tie(net: Network, seed: &mut usize, careless: usize) -> Network {
-    let a = draw(seed, net.elements);
-    let b = draw(seed, net.elements);
-    let cost = 1 + draw(seed, 4);
-    let form = any_form(seed);
-    if careless == 0 || happens(seed, 8) {
-        return with_link(net, a, b, 1, cost);
+    let d = four(seed, net.elements, net.elements, 4, 16);
+    let cost = add(d.c, 1);
+    if careless == 0 {
+        return with_link(net, d.a, d.b, 1, cost);
     }
-    with_link(net, a, b, form, cost)
+    if happens(seed, 8) {
+        return with_link(net, d.a, d.b, 1, cost);
+    }
+    with_link(net, d.a, d.b, any_form(d.d), cost)
 }
 
 fn with_ties(net: Network, seed: &mut usize, careless: usize, ties: usize) -> Network {
@@ -196,13 +238,12 @@ fn with_ties(net: Network, seed: &mut usize, careless: usize, ties: usize) -> Ne
 
 // A small network with nothing planned.
 fn scattered(seed: &mut usize) -> Network {
-    let mut part: [usize; 96] = [0; 96];
-    let mut holds: [usize; 96] = [0; 96];
+    let mut parts: [usize; 96] = [0; 96];
     let mut net = empty();
     let careless = draw(seed, 2);
     let elements = 1 + draw(seed, 10);
     for _ in 0..elements {
-        net = with_any(net, seed, careless, &mut part, &mut holds);
+        net = with_any(net, seed, careless, &mut parts);
     }
     let ties = draw(seed, 6);
     with_ties(net, seed, careless, ties)
@@ -210,16 +251,17 @@ fn scattered(seed: &mut usize) -> Network {
 
 // An element more of the feeders: the first are sources, each other one hangs on an earlier one.
 fn with_live(net: Network, seed: &mut usize, shape: Shape) -> Network {
-    let x = net.elements;
-    let load = draw(seed, shape.load);
-    let capacity = load + draw(seed, shape.room);
-    let p = draw(seed, x);
-    let cost = 1 + draw(seed, shape.cost);
-    let form = if happens(seed, 5) { 0 } else { 2 };
-    if x < shape.sources {
-        return with_element(net, 1, load, capacity);
+    let d = four(seed, shape.load, shape.room, net.elements, shape.cost);
+    let fixed = happens(seed, 5);
+    let capacity = add(d.a, d.b);
+    if net.elements < shape.sources {
+        return with_element(net, 1, d.a, capacity);
     }
-    with_link(with_element(net, 0, load, capacity), p, x, form, cost)
+    let grown = with_element(net, 0, d.a, capacity);
+    if fixed {
+        return with_link(grown, d.c, net.elements, 0, 0);
+    }
+    with_link(grown, d.c, net.elements, 2, add(d.d, 1))
 }
 
 fn dark_flags(seed: &mut usize, faults: usize) -> usize {
@@ -229,45 +271,47 @@ fn dark_flags(seed: &mut usize, faults: usize) -> usize {
     0
 }
 
-// The last element, x, hangs on an earlier dark one by a switch, while more are left than only tie, or by a fixed link; or on none.
-fn with_hung(begun: Begun, seed: &mut usize, shape: Shape, x: usize, flags: usize) -> Begun {
-    let cost = 1 + draw(seed, shape.cost);
-    let p = drawn_from(seed, shape.live, x);
-    let alone = happens(seed, shape.alone);
-    let fixed = happens(seed, shape.fixed);
-    let form = if happens(seed, 3) { 1 } else { 2 };
-    let left = begun.left;
-    if alone || p == x {
-        return begun;
+// The form of the link on which a dark element hangs: a switch, counted off those that are left, where it is not fixed and more are left than only tie.
+fn dark_form(left: &mut usize, shape: Shape, d: Numbers, flags: usize) -> usize {
+    if d.b < shape.fixed && flags == 0 {
+        return 0;
     }
-    if left <= shape.kept || (fixed && flags == 0) {
-        return Begun {
-            net: with_link(begun.net, p, x, 0, 0),
-            left,
-        };
+    if *left <= shape.kept {
+        return 0;
     }
-    Begun {
-        net: with_link(begun.net, p, x, form, cost),
-        left: left - 1,
+    *left = *left - 1;
+    if d.c < 3 {
+        return 1;
     }
+    2
 }
 
-// A dark element more.
-fn with_dark(begun: Begun, seed: &mut usize, shape: Shape) -> Begun {
-    let net = begun.net;
+// The last element, x, hangs on an earlier dark one, or on none.
+fn with_hung(
+    net: Network,
+    seed: &mut usize,
+    shape: Shape,
+    left: &mut usize,
+    x: usize,
+    flags: usize,
+) -> Network {
+    let cost = draw(seed, shape.cost);
+    let p = drawn_from(seed, shape.live, x);
+    let d = three(seed);
+    if p == x || d.a < shape.alone {
+        return net;
+    }
+    let form = dark_form(left, shape, d, flags);
+    with_link(net, p, x, form, cost + 1)
+}
+
+// A dark element more; `left` counts the switches at dark elements that are left.
+fn with_dark(net: Network, seed: &mut usize, shape: Shape, left: &mut usize) -> Network {
     let load = draw(seed, shape.load);
     let flags = dark_flags(seed, shape.faults);
-    let grown = with_element(net, flags, load, load + draw(seed, shape.room));
-    with_hung(
-        Begun {
-            net: grown,
-            left: begun.left,
-        },
-        seed,
-        shape,
-        net.elements,
-        flags,
-    )
+    let room = draw(seed, shape.room);
+    let grown = with_element(net, flags, load, load + room);
+    with_hung(grown, seed, shape, left, net.elements, flags)
 }
 
 fn with_feeders(seed: &mut usize, shape: Shape) -> Network {
@@ -278,107 +322,138 @@ fn with_feeders(seed: &mut usize, shape: Shape) -> Network {
     net
 }
 
-fn with_region(net: Network, seed: &mut usize, shape: Shape) -> Begun {
-    let mut begun = Begun {
-        net,
-        left: shape.switches,
-    };
-    for _ in 0..shape.dark {
-        begun = with_dark(begun, seed, shape);
-    }
-    begun
-}
-
-// The switches that are left tie dark elements to any others.
-fn with_dark_ties(begun: Begun, seed: &mut usize, shape: Shape) -> Network {
-    let mut net = begun.net;
-    for _ in 0..begun.left {
-        let a = drawn_from(seed, shape.live, net.elements);
-        let b = drawn_from(seed, 0, net.elements);
-        let cost = 1 + draw(seed, shape.cost);
-        if a == b {
-            net = with_link(net, a, 0, 1, cost);
-        } else {
-            net = with_link(net, a, b, 1, cost);
-        }
-    }
-    net
-}
-
-// Feeders, dark regions around them, and ties.
-fn planned(seed: &mut usize, shape: Shape) -> Network {
-    let fed = with_feeders(seed, shape);
-    let begun = with_region(fed, seed, shape);
-    let net = with_dark_ties(begun, seed, shape);
-    with_ties(net, seed, 0, shape.ties)
-}
-
-// Raises capacities until none is exceeded at the start, by little.
-fn relieved(net: Network, seed: &mut usize) -> Network {
-    let none: [usize; 96] = [0; 96];
-    let start = links_where(net, 1, &none);
+fn with_region(net: Network, seed: &mut usize, shape: Shape, left: &mut usize) -> Network {
     let mut more = net;
-    for _ in 0..200usize {
-        let broken = broken_in(more, &start, &none);
-        let x = broken.place;
-        if broken.rule != 17 {
-            return more;
-        }
-        if x < 96 {
-            more.capacity[x] = add(more.capacity[x], 1 + draw(seed, 6));
-        }
+    for _ in 0..shape.dark {
+        more = with_dark(more, seed, shape, left);
     }
     more
 }
 
-// New numbers for n things: the first gets `first`, and each next one `stride` more, around n; no two get one number where n is at most 96 and the
-// stride is a prime above.
-fn numbers(n: usize, first: usize, stride: usize) -> [usize; 96] {
-    let mut list: [usize; 96] = [0; 96];
-    let mut next = first;
-    for i in 0..n {
-        put(&mut list, i, next % n);
-        next = add(next % n, stride);
+// A switch that ties a dark element to any other.
+fn with_dark_tie(net: Network, seed: &mut usize, shape: Shape) -> Network {
+    let a = drawn_from(seed, shape.live, net.elements);
+    let b = drawn_from(seed, 0, net.elements);
+    let cost = 1 + draw(seed, shape.cost);
+    if a == b {
+        return with_link(net, a, 0, 1, cost);
     }
-    list
+    with_link(net, a, b, 1, cost)
 }
 
-// A list in the order of the new numbers.
-fn moved(list: &[usize; 96], n: usize, numbers: &[usize; 96]) -> [usize; 96] {
+fn with_dark_ties(net: Network, seed: &mut usize, shape: Shape, ties: usize) -> Network {
+    let mut more = net;
+    for _ in 0..ties {
+        more = with_dark_tie(more, seed, shape);
+    }
+    more
+}
+
+// Feeders, dark regions around them, and ties; the switches that are left tie dark elements to any others.
+fn planned(shape: Shape, seed: &mut usize) -> Network {
+    let mut left = shape.switches;
+    let fed = with_feeders(seed, shape);
+    let dark = with_region(fed, seed, shape, &mut left);
+    let tied = with_dark_ties(dark, seed, shape, left);
+    relieved(with_ties(tied, seed, 0, shape.ties), seed)
+}
+
+fn with_room(net: Network, x: usize, room: usize) -> Network {
+    let mut more = net;
+    if x < 96 {
+        more.capacity[x] = add(net.capacity[x], room);
+    }
+    more
+}
+
+// Raises capacities until none is exceeded at the start, by little.
+fn relieved(net: Network, seed: &mut usize) -> Network {
+    let mut more = net;
+    for _ in 0..200usize {
+        let broken = broken_at_start(more);
+        if broken.rule != 17 {
+            return more;
+        }
+        more = with_room(more, broken.place, 1 + draw(seed, 6));
+    }
+    more
+}
+
+// An order of n things: 4 times the first one's new number, and one of four strides.
+fn order(seed: &mut usize, n: usize) -> usize {
+    let first = draw(seed, n);
+    first * 4 + draw(seed, 4)
+}
+
+// So many strides, which are primes above 96.
+fn strides(which: usize, times: usize) -> usize {
+    let i = times % 128;
+    match which {
+        0 => i * 97,
+        1 => i * 101,
+        2 => i * 103,
+        _ => i * 107,
+    }
+}
+
+// The new number of the i-th of n things: each next one gets a stride more, around n, so no two of at most 96 get one number.
+fn number(order: usize, n: usize, i: usize) -> usize {
+    if n == 0 {
+        return 0;
+    }
+    add(order / 4, strides(order % 4, i)) % n
+}
+
+// A number as it is (0), or so large that sums of a few loads (1) or costs (2) pass what two bytes hold; at most what they hold.
+fn enlarged(n: usize, scale: usize) -> usize {
+    let small = n % 65536;
+    match scale {
+        0 => n,
+        1 => min(small * 4001, 65535),
+        _ => min(small * 13107, 65535),
+    }
+}
+
+// A list in another order, its numbers enlarged.
+fn moved(list: &[usize; 96], n: usize, order: usize, scale: usize) -> [usize; 96] {
     let mut other: [usize; 96] = [0; 96];
     for i in 0..n {
-        put(&mut other, at(numbers, i), at(list, i));
+        put(
+            &mut other,
+            number(order, n, i),
+            enlarged(at(list, i), scale),
+        );
     }
     other
 }
 
-// Ends of links by the elements' new numbers.
-fn renamed(ends: &[usize; 96], links: usize, numbers: &[usize; 96]) -> [usize; 96] {
+// Ends of links, in the links' other order and by the elements' new numbers.
+fn ends_moved(
+    ends: &[usize; 96],
+    links: usize,
+    y: usize,
+    elements: usize,
+    x: usize,
+) -> [usize; 96] {
     let mut other: [usize; 96] = [0; 96];
     for k in 0..links {
-        put(&mut other, k, at(numbers, at(ends, k)));
+        put(
+            &mut other,
+            number(y, links, k),
+            number(x, elements, at(ends, k)),
+        );
     }
     other
 }
 
-fn stride(seed: &mut usize) -> usize {
-    let d = draw(seed, 4);
-    match d {
-        0 => 97,
-        1 => 101,
-        2 => 103,
-        _ => 107,
-    }
-}
-
-// The elements in the order of their new numbers.
-fn with_elements_moved(net: Network, numbers: &[usize; 96]) -> Network {
+// The elements in an order, loads and capacities enlarged.
+fn with_elements_moved(net: Network, x: usize, scale: usize) -> Network {
     let old = net.load;
-    let load = moved(&old, net.elements, numbers);
+    let load = moved(&old, net.elements, x, scale);
     let old = net.capacity;
-    let capacity = moved(&old, net.elements, numbers);
+    let capacity = moved(&old, net.elements, x, scale);
     let old = net.flags;
-    let flags = moved(&old, net.elements, numbers);
+    let flags = moved(&old, net.elements, x, 0);
     let mut other = net;
     other.load = load;
     other.capacity = capacity;
@@ -386,28 +461,16 @@ fn with_elements_moved(net: Network, numbers: &[usize; 96]) -> Network {
     other
 }
 
-// The ends of the links by the elements' new numbers.
-fn with_ends_renamed(net: Network, numbers: &[usize; 96]) -> Network {
+// The links in an order y, costs enlarged, and their ends in the elements' order x.
+fn with_links_moved(net: Network, x: usize, y: usize, scale: usize) -> Network {
     let old = net.from;
-    let from = renamed(&old, net.links, numbers);
+    let from = ends_moved(&old, net.links, y, net.elements, x);
     let old = net.to;
-    let to = renamed(&old, net.links, numbers);
-    let mut other = net;
-    other.from = from;
-    other.to = to;
-    other
-}
-
-// The links in the order of their new numbers.
-fn with_links_moved(net: Network, numbers: &[usize; 96]) -> Network {
-    let old = net.from;
-    let from = moved(&old, net.links, numbers);
-    let old = net.to;
-    let to = moved(&old, net.links, numbers);
+    let to = ends_moved(&old, net.links, y, net.elements, x);
     let old = net.form;
-    let form = moved(&old, net.links, numbers);
+    let form = moved(&old, net.links, y, 0);
     let old = net.cost;
-    let cost = moved(&old, net.links, numbers);
+    let cost = moved(&old, net.links, y, scale);
     let mut other = net;
     other.from = from;
     other.to = to;
@@ -416,30 +479,22 @@ fn with_links_moved(net: Network, numbers: &[usize; 96]) -> Network {
     other
 }
 
-// Elements and links in another order.
-fn shuffled(net: Network, seed: &mut usize) -> Network {
-    let first = draw(seed, net.elements);
-    let x = numbers(net.elements, first, stride(seed));
-    let front = draw(seed, net.links);
-    let y = numbers(net.links, front, stride(seed));
-    let by_elements = with_ends_renamed(with_elements_moved(net, &x), &x);
-    with_links_moved(by_elements, &y)
-}
-
 // Regions around a few sources that must be split where capacities are small.
 fn region_shape(seed: &mut usize) -> Shape {
-    let sources = 1 + draw(seed, 4);
+    let d = four(seed, 4, 3, 7, 8);
+    let e = four(seed, 3, 2, 4, 5);
+    let sources = add(d.a, 1);
     Shape {
         sources,
-        live: sources + draw(seed, 3),
-        dark: 2 + draw(seed, 7),
-        switches: 3 + draw(seed, 8),
-        kept: 1 + draw(seed, 3),
-        ties: draw(seed, 2),
-        faults: draw(seed, 4),
+        live: add(sources, d.b),
+        dark: add(d.c, 2),
+        switches: add(d.d, 3),
+        kept: add(e.a, 1),
+        ties: e.b,
+        faults: e.c,
         fixed: 3,
         alone: 2,
-        load: 1 + draw(seed, 5),
+        load: add(e.d, 1),
         cost: 1 + draw(seed, 4),
         room: 3 + draw(seed, 12),
     }
@@ -449,25 +504,26 @@ fn region_shape(seed: &mut usize) -> Shape {
 fn large_shape(seed: &mut usize, size_from: usize, switches: usize) -> Shape {
     let sources = 2 + draw(seed, 4);
     let size = size_from % 32 + draw(seed, 8);
+    let d = four(seed, size + 1, size + 1, 4, 2 * size + 1);
+    let e = four(seed, 2, 6, 3, 5);
     Shape {
         sources,
-        live: sources + 4 + size + draw(seed, size + 1),
-        dark: 8 + size + draw(seed, size + 1),
+        live: add(sources + 4 + size, d.a),
+        dark: add(8 + size, d.b),
         switches,
-        kept: 4 + draw(seed, 4),
-        ties: 2 * size + draw(seed, 2 * size + 1),
-        faults: draw(seed, 2),
-        fixed: 8 + draw(seed, 6),
+        kept: add(d.c, 4),
+        ties: add(2 * size, d.d),
+        faults: e.a,
+        fixed: add(e.b, 8),
         alone: 1,
-        load: 2 + draw(seed, 3),
-        cost: 1 + draw(seed, 5),
+        load: add(e.c, 2),
+        cost: add(e.d, 1),
         room: 20 + draw(seed, 60),
     }
 }
 
 fn has_twelve(net: Network) -> bool {
-    let none: [usize; 96] = [0; 96];
-    let study = opening(net, &links_where(net, 1, &none));
+    let study = opening(net);
     study.rule == 0 && study.switches.count == 12
 }
 
@@ -475,8 +531,7 @@ fn has_twelve(net: Network) -> bool {
 fn with_twelve(seed: &mut usize, size_from: usize) -> Network {
     let mut net = empty();
     for _ in 0..32usize {
-        let shape = large_shape(seed, size_from, 12);
-        net = relieved(planned(seed, shape), seed);
+        net = planned(large_shape(seed, size_from, 12), seed);
         if has_twelve(net) {
             return net;
         }
@@ -484,26 +539,7 @@ fn with_twelve(seed: &mut usize, size_from: usize) -> Network {
     net
 }
 
-// Loads, capacities and costs so large that sums of a few pass what two bytes hold.
-fn enlarged(net: Network) -> Network {
-    let mut more = net;
-    for i in 0..96 {
-        more.load[i] = capped(net.load[i] % 65536 * 4001);
-        more.capacity[i] = capped(net.capacity[i] % 65536 * 4001);
-        more.cost[i] = capped(net.cost[i] % 65536 * 13107);
-    }
-    more
-}
-
-// What two bytes hold of a number.
-fn capped(n: usize) -> usize {
-    if n < 65535 {
-        return n;
-    }
-    65535
-}
-
-// A large network, of a number that is 0 or 1 more than a multiple of 50.
+// A large network with many switches.
 fn large(n: usize, seed: &mut usize) -> Network {
     if n % 100 == 0 {
         return with_twelve(seed, 16);
@@ -512,14 +548,12 @@ fn large(n: usize, seed: &mut usize) -> Network {
         return with_twelve(seed, 0);
     }
     let switches = 13 + draw(seed, 6);
-    let shape = large_shape(seed, 4, switches);
-    relieved(planned(seed, shape), seed)
+    planned(large_shape(seed, 4, switches), seed)
 }
 
 fn small(n: usize, seed: &mut usize) -> Network {
     if n % 3 != 0 {
-        let shape = region_shape(seed);
-        return relieved(planned(seed, shape), seed);
+        return planned(region_shape(seed), seed);
     }
     let net = scattered(seed);
     if happens(seed, 7) {
@@ -536,11 +570,19 @@ fn shaped(n: usize, seed: &mut usize) -> Network {
     small(n, seed)
 }
 
-// The network of a number.
-pub fn drawn(n: usize, seed: &mut usize) -> Network {
-    let net = shuffled(shaped(n, seed), seed);
+// Each eighth network is enlarged.
+fn scale(n: usize, large: usize) -> usize {
     if n % 8 == 7 {
-        return enlarged(net);
+        return large;
     }
-    net
+    0
+}
+
+// The network of a number, its elements and links in another order.
+pub fn drawn(n: usize, seed: &mut usize) -> Network {
+    let net = shaped(n, seed);
+    let x = order(seed, net.elements);
+    let y = order(seed, net.links);
+    let by_elements = with_elements_moved(net, x, scale(n, 1));
+    with_links_moved(by_elements, x, y, scale(n, 2))
 }

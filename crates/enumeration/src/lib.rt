@@ -7,10 +7,10 @@ use surveys::Study;
 use surveys::add;
 use surveys::at;
 use surveys::broken_in;
+use surveys::closed_at_start;
 use surveys::enter;
 use surveys::entry;
 use surveys::has;
-use surveys::links_where;
 use surveys::min;
 use surveys::opening;
 use surveys::turned;
@@ -216,9 +216,8 @@ fn printed(
 }
 
 pub fn studied(net: Network) -> Study {
-    let none: [usize; 96] = [0; 96];
-    let start = links_where(net, 1, &none);
-    let mut study = opening(net, &start);
+    let start = closed_at_start(net);
+    let mut study = opening(net);
     if study.rule != 0 {
         return study;
     }

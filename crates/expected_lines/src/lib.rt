@@ -7,9 +7,9 @@ use surveys::Switches;
 use surveys::add;
 use surveys::at;
 use surveys::broken_in;
+use surveys::closed_at_start;
 use surveys::entry;
 use surveys::has;
-use surveys::links_where;
 use surveys::live_in;
 use surveys::put;
 use surveys::turned;
@@ -111,11 +111,10 @@ fn load_of(net: Network, which: usize, live: &[usize; 96], restorable: &[usize; 
 
 // The line of loads in the configuration with the switches of a set turned over.
 fn put_loads(out: &mut [u8; 4096], n: usize, net: Network, study: Study, set: usize) -> usize {
-    let none: [usize; 96] = [0; 96];
     let switches = study.switches;
     let link = switches.link;
     let restorable = study.restorable;
-    let on = turned(links_where(net, 1, &none), &link, switches.count, set);
+    let on = turned(closed_at_start(net), &link, switches.count, set);
     let live = live_in(net, &on);
     let worded = put_text(out, n, b"LOAD");
     let fed = put_field(out, worded, load_of(net, 0, &live, &restorable));
@@ -158,20 +157,14 @@ fn reason(net: Network, study: Study, link: usize, state: usize, on: &mut [usize
     0
 }
 
-// The first bad step, counted from 1, or 0; its reason; and what all steps cost.
-fn steps_tried(
-    net: Network,
-    study: Study,
-    links: &[usize; 4096],
-    states: &[usize; 4096],
-    count: usize,
-    on: &mut [usize; 96],
-) -> Tried {
+// The first bad step of a plan, counted from 1, or 0; its reason; and what all steps cost. The count of the steps stands first in the plan, and a step is
+// twice its link, and one more where it closes.
+fn steps_tried(net: Network, study: Study, plan: &[usize; 4096], on: &mut [usize; 96]) -> Tried {
     let prices = net.cost;
     let mut cost: usize = 0;
-    for i in 0..count {
-        let link = entry(links, i);
-        let why = reason(net, study, link, entry(states, i), on);
+    for i in 0..entry(plan, 0) {
+        let step = entry(plan, add(i, 1));
+        let why = reason(net, study, step / 2, step % 2, on);
         if why != 0 {
             return Tried {
                 step: i + 1,
@@ -179,7 +172,7 @@ fn steps_tried(
                 cost,
             };
         }
-        cost = add(cost, at(&prices, link));
+        cost = add(cost, at(&prices, step / 2));
     }
     Tried {
         step: 0,
@@ -189,20 +182,12 @@ fn steps_tried(
 }
 
 // The judge's line for a submitted plan, in the front of `out`, and its length.
-pub fn mark_text(
-    net: Network,
-    study: Study,
-    links: &[usize; 4096],
-    states: &[usize; 4096],
-    count: usize,
-    out: &mut [u8; 4096],
-) -> usize {
+pub fn mark_text(net: Network, study: Study, plan: &[usize; 4096], out: &mut [u8; 4096]) -> usize {
     if study.rule != 0 {
         return put_two_fields(out, 0, b"REFUSED", study.rule, study.place);
     }
-    let none: [usize; 96] = [0; 96];
-    let mut on = links_where(net, 1, &none);
-    let end = steps_tried(net, study, links, states, count, &mut on);
+    let mut on = closed_at_start(net);
+    let end = steps_tried(net, study, plan, &mut on);
     if end.step != 0 {
         return put_two_fields(out, 0, b"BROKEN", end.step, end.reason);
     }

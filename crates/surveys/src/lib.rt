@@ -131,43 +131,39 @@ fn cross(via: &mut [usize; 96], near: usize, far: usize) -> bool {
     true
 }
 
+// Crosses a link, whichever end is reached.
+fn cross_either(via: &mut [usize; 96], a: usize, b: usize) -> bool {
+    if cross(via, a, b) {
+        return true;
+    }
+    cross(via, b, a)
+}
+
 // One pass over the links that are on; whether it reached anything new.
-fn spread(
-    from: &[usize; 96],
-    to: &[usize; 96],
-    on: &[usize; 96],
-    links: usize,
-    via: &mut [usize; 96],
-) -> bool {
+fn spread(net: Network, on: &[usize; 96], via: &mut [usize; 96]) -> bool {
+    let from = net.from;
+    let to = net.to;
     let mut changed = false;
-    for k in 0..links {
-        if at(on, k) != 0 {
-            let a = at(from, k);
-            let b = at(to, k);
-            if cross(via, a, b) {
-                changed = true;
-            }
-            if cross(via, b, a) {
-                changed = true;
-            }
+    for k in 0..net.links {
+        if at(on, k) != 0 && cross_either(via, at(&from, k), at(&to, k)) {
+            changed = true;
         }
     }
     changed
 }
 
 // Flooding, until nothing changes.
-fn flood(
-    from: &[usize; 96],
-    to: &[usize; 96],
-    on: &[usize; 96],
-    links: usize,
-    via: &mut [usize; 96],
-) {
+fn flood(net: Network, on: &[usize; 96], via: &mut [usize; 96]) {
     for _ in 0..65usize {
-        if !spread(from, to, on, links, via) {
+        if !spread(net, on, via) {
             return;
         }
     }
+}
+
+// Whether an element has flags from `low` to `high` and is not barred.
+fn is_origin(flag: usize, low: usize, high: usize, barred: usize) -> bool {
+    low <= flag && flag <= high && barred == 0
 }
 
 // What a flood from all elements with flags from `low` to `high` that are not barred reaches.
@@ -179,16 +175,13 @@ fn flood_from(
     on: &[usize; 96],
 ) -> [usize; 96] {
     let flags = net.flags;
-    let from = net.from;
-    let to = net.to;
     let mut via: [usize; 96] = [0; 96];
     for x in 0..net.elements {
-        let flag = at(&flags, x);
-        if low <= flag && flag <= high && at(barred, x) == 0 {
+        if is_origin(at(&flags, x), low, high, at(barred, x)) {
             put(&mut via, x, add(x, 1));
         }
     }
-    flood(&from, &to, on, net.links, &mut via);
+    flood(net, on, &mut via);
     via
 }
 
@@ -222,23 +215,25 @@ pub fn links_where(net: Network, which: usize, marks: &[usize; 96]) -> [usize; 9
     on
 }
 
+// The links that are closed at the start.
+pub fn closed_at_start(net: Network) -> [usize; 96] {
+    let none: [usize; 96] = [0; 96];
+    links_where(net, 1, &none)
+}
+
 // The elements of a part, which are put into `seen` too.
-fn part_of(
-    flags: &[usize; 96],
-    part: &[usize; 96],
-    elements: usize,
-    seen: &mut [usize; 96],
-) -> Part {
+fn part_of(net: Network, part: &[usize; 96], seen: &mut [usize; 96]) -> Part {
+    let flags = net.flags;
     let mut found = Part {
         elements: 0,
         sources: 0,
         source: 64,
         fault: 64,
     };
-    for x in 0..elements {
+    for x in 0..net.elements {
         if at(part, x) != 0 {
             put(seen, x, 1);
-            found = with_element(found, x, at(flags, x));
+            found = with_element(found, x, at(&flags, x));
         }
     }
     found
@@ -258,10 +253,11 @@ fn with_element(part: Part, x: usize, flag: usize) -> Part {
 }
 
 // How many links that are on have an end in the part.
-fn links_in(from: &[usize; 96], on: &[usize; 96], links: usize, part: &[usize; 96]) -> usize {
+fn links_in(net: Network, on: &[usize; 96], part: &[usize; 96]) -> usize {
+    let from = net.from;
     let mut n: usize = 0;
-    for k in 0..links {
-        if at(on, k) != 0 && at(part, at(from, k)) != 0 {
+    for k in 0..net.links {
+        if at(on, k) != 0 && at(part, at(&from, k)) != 0 {
             n = add(n, 1);
         }
     }
@@ -283,11 +279,23 @@ fn with_part(places: Places, x: usize, part: Part, closed: usize) -> Places {
     more
 }
 
-// All parts, each by flooding from its lowest element.
+// The places after the part whose lowest element is x, by flooding from there.
+fn with_part_from(
+    net: Network,
+    on: &[usize; 96],
+    x: usize,
+    seen: &mut [usize; 96],
+    places: Places,
+) -> Places {
+    let mut via: [usize; 96] = [0; 96];
+    put(&mut via, x, add(x, 1));
+    flood(net, on, &mut via);
+    let part = part_of(net, &via, seen);
+    with_part(places, x, part, links_in(net, on, &via))
+}
+
+// All parts.
 fn survey(net: Network, on: &[usize; 96]) -> Places {
-    let flags = net.flags;
-    let from = net.from;
-    let to = net.to;
     let mut seen: [usize; 96] = [0; 96];
     let mut places = Places {
         untree: 64,
@@ -296,11 +304,7 @@ fn survey(net: Network, on: &[usize; 96]) -> Places {
     };
     for x in 0..net.elements {
         if at(&seen, x) == 0 {
-            let mut via: [usize; 96] = [0; 96];
-            put(&mut via, x, add(x, 1));
-            flood(&from, &to, on, net.links, &mut via);
-            let part = part_of(&flags, &via, net.elements, &mut seen);
-            places = with_part(places, x, part, links_in(&from, on, net.links, &via));
+            places = with_part_from(net, on, x, &mut seen, places);
         }
     }
     places
@@ -397,6 +401,12 @@ pub fn broken_in(net: Network, on: &[usize; 96], restorable: &[usize; 96]) -> Br
     }
 }
 
+// The first of the rules 14 to 17 that the start breaks.
+pub fn broken_at_start(net: Network) -> Broken {
+    let none: [usize; 96] = [0; 96];
+    broken_in(net, &closed_at_start(net), &none)
+}
+
 // The configuration in which the switches of a set are turned over.
 pub fn turned(on: [usize; 96], switches: &[usize; 96], count: usize, set: usize) -> [usize; 96] {
     let mut states = on;
@@ -447,26 +457,44 @@ fn listed(net: Network, members: &[usize; 96]) -> Switches {
     }
 }
 
-// What holds of the start: restorable elements, operable switches, and the first of rules 14 to 18 that is broken.
-pub fn opening(net: Network, start: &[usize; 96]) -> Study {
+// The elements that a sound source reaches through links that no spoiled element touches.
+fn restorable_in(net: Network) -> [usize; 96] {
     let none: [usize; 96] = [0; 96];
     let fixed = links_where(net, 0, &none);
     let spoiled = flood_from(net, 2, 3, &none, &fixed);
     let unspoiled = links_where(net, 2, &spoiled);
-    let restorable = flood_from(net, 1, 1, &spoiled, &unspoiled);
-    let dark = dark_of(net.elements, &restorable, &live_in(net, start));
-    let operable = links_where(net, 3, &dark);
-    let switches = listed(net, &operable);
-    let broken = broken_in(net, start, &restorable);
-    let mut rule = broken.rule;
-    let mut place = broken.place;
-    if rule == 0 && 12 < switches.count {
-        rule = 18;
-        place = switches.count;
+    flood_from(net, 1, 1, &spoiled, &unspoiled)
+}
+
+// The switches at elements that are restorable and dark at the start.
+fn operable_in(net: Network, start: &[usize; 96], restorable: &[usize; 96]) -> [usize; 96] {
+    let live = live_in(net, start);
+    let dark = dark_of(net.elements, restorable, &live);
+    links_where(net, 3, &dark)
+}
+
+// The first of rules 14 to 18 that is broken: with none of the others, rule 18 where there are more than 12 operable switches.
+fn refused(broken: Broken, count: usize) -> Broken {
+    if broken.rule != 0 || count <= 12 {
+        return broken;
     }
+    Broken {
+        rule: 18,
+        place: count,
+        dark: 64,
+    }
+}
+
+// What holds of the start: restorable elements, operable switches, and the first of rules 14 to 18 that is broken.
+pub fn opening(net: Network) -> Study {
+    let start = closed_at_start(net);
+    let restorable = restorable_in(net);
+    let operable = operable_in(net, &start, &restorable);
+    let switches = listed(net, &operable);
+    let broken = refused(broken_in(net, &start, &restorable), switches.count);
     Study {
-        rule,
-        place,
+        rule: broken.rule,
+        place: broken.place,
         switches,
         operable,
         restorable,

@@ -13,10 +13,12 @@ use surveys::add;
 use surveys::at;
 use surveys::put;
 
-// Where the counts of networks with 12 operable switches and of differences stand; the kinds of replies and marks stand from 0 to 13.
-pub const TWELVE: usize = 14;
+// Where the counts stand of all networks, of those with 12 operable switches and of differences; the kinds of replies stand from 2 on, of marks from 9.
+const NETWORKS: usize = 0;
 
-pub const DIFFERENCES: usize = 15;
+const TWELVE: usize = 1;
+
+const DIFFERENCES: usize = 16;
 
 fn count(counts: &mut [usize; 96], i: usize) {
     put(counts, i, add(at(counts, i), 1));
@@ -33,18 +35,18 @@ fn byte(text: &[u8; 4096], i: usize) -> u8 {
 // PLAN, NONE, REFUSED 14 to 18.
 fn reply_kind(text: &[u8; 4096]) -> usize {
     if byte(text, 0) == b'P' {
-        return 0;
+        return 2;
     }
     if byte(text, 0) == b'N' {
-        return 1;
+        return 3;
     }
     let digit = byte(text, 9);
     match digit {
-        b'4' => 2,
-        b'5' => 3,
-        b'6' => 4,
-        b'7' => 5,
-        _ => 6,
+        b'4' => 4,
+        b'5' => 5,
+        b'6' => 6,
+        b'7' => 7,
+        _ => 8,
     }
 }
 
@@ -52,25 +54,25 @@ fn reply_kind(text: &[u8; 4096]) -> usize {
 fn mark_kind(text: &[u8; 4096], n: usize) -> usize {
     let first = byte(text, 0);
     if n < 3 || first == b'R' {
-        return 13;
+        return 15;
     }
     let last = byte(text, n - 2);
     if first == b'S' {
-        return 10;
+        return 12;
     }
     if first == b'V' {
         if last == b'0' && byte(text, n - 3) == b' ' {
-            return 11;
+            return 13;
         }
-        return 12;
+        return 14;
     }
     if last == b'1' {
-        return 7;
+        return 9;
     }
     if last == b'2' {
-        return 8;
+        return 10;
     }
-    9
+    11
 }
 
 // The planner's lines, the plan file that it leaves, and the judge's line, for the first n bytes of a file.
@@ -128,6 +130,11 @@ fn compare_reply(
     let got = planner_lines(file, n, &mut out);
     count(counts, reply_kind(&expected));
     hold(&out, got, &expected, m, counts);
+}
+
+// Every sequence of operations and the printed plans have one least cost.
+fn compare_costs(study: Study, counts: &mut [usize; 96]) {
+    count(counts, NETWORKS);
     if study.least != study.cost {
         count(counts, DIFFERENCES);
     }
@@ -136,36 +143,27 @@ fn compare_reply(
     }
 }
 
-// The plan file that the planner leaves in a buffer, and the buffer with the file of the steps given.
-fn compare_file(
-    file: &[u8; 4096],
-    n: usize,
-    links: &[usize; 4096],
-    states: &[usize; 4096],
-    steps: usize,
-    counts: &mut [usize; 96],
-) {
+// The plan file that the planner leaves in a buffer, and the buffer with the file of the plan given.
+fn compare_file(file: &[u8; 4096], n: usize, plan: &[usize; 4096], counts: &mut [usize; 96]) {
     let mut expected: [u8; 4096] = [0; 4096];
     let mut buffer: [u8; 4096] = [0; 4096];
-    put_plan(&mut expected, 0, links, states, steps);
+    put_plan(&mut expected, 0, plan);
     planner_file(file, n, &mut buffer);
     hold(&buffer, 4096, &expected, 4096, counts);
 }
 
-// The judge's line for the file of n bytes, of a network with the steps given behind it.
+// The judge's line for the file of n bytes, of a network with the plan given behind it.
 fn compare_line(
     net: Network,
     study: Study,
     file: &[u8; 4096],
     n: usize,
-    links: &[usize; 4096],
-    states: &[usize; 4096],
-    steps: usize,
+    plan: &[usize; 4096],
     counts: &mut [usize; 96],
 ) {
     let mut expected: [u8; 4096] = [0; 4096];
     let mut out: [u8; 4096] = [0; 4096];
-    let m = mark_text(net, study, links, states, steps, &mut expected);
+    let m = mark_text(net, study, plan, &mut expected);
     let got = judge_line(file, n, &mut out);
     count(counts, mark_kind(&expected, m));
     hold(&out, got, &expected, m, counts);
@@ -181,13 +179,12 @@ fn compare_mark(
     seed: &mut usize,
     counts: &mut [usize; 96],
 ) {
-    let mut links: [usize; 4096] = [0; 4096];
-    let mut states: [usize; 4096] = [0; 4096];
-    let steps = sampled(net, study, way, seed, &mut links, &mut states);
-    let end = put_plan(file, n, &links, &states, steps);
-    compare_line(net, study, file, end, &links, &states, steps, counts);
+    let mut plan: [usize; 4096] = [0; 4096];
+    sampled(net, study, way, seed, &mut plan);
+    let end = put_plan(file, n, &plan);
+    compare_line(net, study, file, end, &plan, counts);
     if way == 1 && study.cost < LIMIT {
-        compare_file(file, n, &links, &states, steps, counts);
+        compare_file(file, n, &plan, counts);
     }
 }
 
@@ -211,6 +208,7 @@ pub fn compare_all(net: Network, seed: &mut usize, counts: &mut [usize; 96]) {
     let study = studied(net);
     let mut file: [u8; 4096] = [0; 4096];
     let n = put_network(&mut file, net);
+    compare_costs(study, counts);
     compare_reply(net, study, &file, n, counts);
     compare_marks(net, study, &mut file, n, seed, counts);
 }

@@ -4,43 +4,23 @@ mod compare;
 
 use drawn_networks::drawn;
 use libc::STDOUT_FILENO;
+use surveys::add;
 use surveys::at;
 
 // How many networks are drawn.
 const NETWORKS: usize = 4000;
 
-fn count(name: &[u8], n: usize) {
-    io::write_all(STDOUT_FILENO, name);
-    io::print_decimal(STDOUT_FILENO, n as u64);
-    io::write_all(STDOUT_FILENO, b"\n");
-}
-
-fn print_replies(counts: &[usize; 96]) {
-    count(b"planner PLAN ", at(counts, 0));
-    count(b"planner NONE ", at(counts, 1));
-    count(b"planner REFUSED 14 ", at(counts, 2));
-    count(b"planner REFUSED 15 ", at(counts, 3));
-    count(b"planner REFUSED 16 ", at(counts, 4));
-    count(b"planner REFUSED 17 ", at(counts, 5));
-    count(b"planner REFUSED 18 ", at(counts, 6));
-}
-
-fn print_marks(counts: &[usize; 96]) {
-    count(b"judge BROKEN, reason 1 ", at(counts, 7));
-    count(b"judge BROKEN, reason 2 ", at(counts, 8));
-    count(b"judge BROKEN, reason 3 ", at(counts, 9));
-    count(b"judge SHORT ", at(counts, 10));
-    count(b"judge VALID, excess 0 ", at(counts, 11));
-    count(b"judge VALID, excess above 0 ", at(counts, 12));
-    count(b"judge REFUSED ", at(counts, 13));
-}
-
-fn print(counts: &[usize; 96]) {
-    count(b"networks ", NETWORKS);
-    count(b"with 12 operable switches ", at(counts, compare::TWELVE));
-    print_replies(counts);
-    print_marks(counts);
-    count(b"differences ", at(counts, compare::DIFFERENCES));
+// Lines, each with one of the counts at its end, from the first one given on.
+fn print(counts: &[usize; 96], first: usize, lines: &[u8]) {
+    let mut next = first;
+    for i in 0..lines.len() {
+        let byte = [lines[i]];
+        if lines[i] == b'\n' {
+            io::print_decimal(STDOUT_FILENO, at(counts, next) as u64);
+            next = add(next, 1);
+        }
+        io::write_all(STDOUT_FILENO, &byte);
+    }
 }
 
 fn main() {
@@ -50,5 +30,30 @@ fn main() {
         let net = drawn(i, &mut seed);
         compare::compare_all(net, &mut seed, &mut counts);
     }
-    print(&counts);
+    print(
+        &counts,
+        0,
+        b"networks \nwith 12 operable switches \nplanner PLAN \nplanner NONE \n",
+    );
+    print(
+        &counts,
+        4,
+        b"planner REFUSED 14 \nplanner REFUSED 15 \nplanner REFUSED 16 \n",
+    );
+    print(
+        &counts,
+        7,
+        b"planner REFUSED 17 \nplanner REFUSED 18 \njudge BROKEN, reason 1 \n",
+    );
+    print(
+        &counts,
+        10,
+        b"judge BROKEN, reason 2 \njudge BROKEN, reason 3 \njudge SHORT \n",
+    );
+    print(
+        &counts,
+        13,
+        b"judge VALID, excess 0 \njudge VALID, excess above 0 \n",
+    );
+    print(&counts, 15, b"judge REFUSED \ndifferences \n");
 }

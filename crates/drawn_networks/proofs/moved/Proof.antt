@@ -6,19 +6,22 @@ use Rattle.drawn_networks.proofs.moved.Statement.{statement}
 use Rattle.drawn_networks.proofs.moved.Tie as tie
 
 abbrev Inv-loop : tie.InvT-loop
-Inv-loop list n numbers other₀ i₀ other i = Unit {0}
+Inv-loop list n order times other₀ i₀ other i = Unit {0}
 
 abbrev μ-loop : tie.MeasureT-loop
-μ-loop list n numbers other₀ i₀ other i = n - i
+μ-loop list n order times other₀ i₀ other i = n - i
 
 loop-holds : tie.Need-loop-holds Inv-loop μ-loop
 loop-holds c = tt
 
+number-requires : tie.Need-number-requires Inv-loop μ-loop
+number-requires c κs = search needs
+
 at-requires : tie.Need-at-requires Inv-loop μ-loop
 at-requires c κs = search needs
 
-at-requires-2 : tie.Need-at-requires-2 Inv-loop μ-loop
-at-requires-2 c κs = search needs
+enlarged-requires : tie.Need-enlarged-requires Inv-loop μ-loop
+enlarged-requires c κs = search needs
 
 put-requires : tie.Need-put-requires Inv-loop μ-loop
 put-requires c κs = search needs
@@ -42,8 +45,9 @@ moved-spec =
     Inv-loop
     μ-loop
     loop-holds
+    number-requires
     at-requires
-    at-requires-2
+    enlarged-requires
     put-requires
     add-i
     loop-less

@@ -6,10 +6,10 @@ use Rattle.drawn_networks.proofs.scattered.Statement.{statement}
 use Rattle.drawn_networks.proofs.scattered.Tie as tie
 
 abbrev Inv-loop : tie.InvT-loop
-Inv-loop seed₀ part₀ holds₀ net₀ careless elements counter₀ seed part holds net counter = Unit {0}
+Inv-loop seed₀ parts₀ net₀ careless elements counter₀ seed parts net counter = Unit {0}
 
 abbrev μ-loop : tie.MeasureT-loop
-μ-loop seed₀ part₀ holds₀ net₀ careless elements counter₀ seed part holds net counter = elements - counter
+μ-loop seed₀ parts₀ net₀ careless elements counter₀ seed parts net counter = elements - counter
 
 empty-requires : tie.Need-empty-requires Inv-loop μ-loop
 empty-requires c κs = search needs

@@ -6,31 +6,16 @@ use Rattle.drawn_networks.proofs.with_dark_ties.Statement.{statement}
 use Rattle.drawn_networks.proofs.with_dark_ties.Tie as tie
 
 abbrev Inv-loop : tie.InvT-loop
-Inv-loop seed₀ shape net₀ counter₀ end seed net counter = Unit {0}
+Inv-loop seed₀ shape ties more₀ counter₀ seed more counter = Unit {0}
 
 abbrev μ-loop : tie.MeasureT-loop
-μ-loop seed₀ shape net₀ counter₀ end seed net counter = end - counter
+μ-loop seed₀ shape ties more₀ counter₀ seed more counter = ties - counter
 
 loop-holds : tie.Need-loop-holds Inv-loop μ-loop
 loop-holds c = tt
 
-drawn-from-requires : tie.Need-drawn-from-requires Inv-loop μ-loop
-drawn-from-requires c κs = search needs
-
-drawn-from-requires-2 : tie.Need-drawn-from-requires-2 Inv-loop μ-loop
-drawn-from-requires-2 c κs = search needs
-
-draw-requires : tie.Need-draw-requires Inv-loop μ-loop
-draw-requires c κs = search needs
-
-add-cost : tie.Need-add-cost Inv-loop μ-loop
-add-cost c = search needs
-
-with-link-requires : tie.Need-with-link-requires Inv-loop μ-loop
-with-link-requires c κs = search needs
-
-with-link-requires-2 : tie.Need-with-link-requires-2 Inv-loop μ-loop
-with-link-requires-2 c κs = search needs
+with-dark-tie-requires : tie.Need-with-dark-tie-requires Inv-loop μ-loop
+with-dark-tie-requires c κs = search needs
 
 add-counter : tie.Need-add-counter Inv-loop μ-loop
 add-counter c = search needs
@@ -51,12 +36,7 @@ with-dark-ties-spec =
     Inv-loop
     μ-loop
     loop-holds
-    drawn-from-requires
-    drawn-from-requires-2
-    draw-requires
-    add-cost
-    with-link-requires
-    with-link-requires-2
+    with-dark-tie-requires
     add-counter
     loop-less
     loop-again

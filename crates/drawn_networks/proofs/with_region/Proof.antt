@@ -6,10 +6,10 @@ use Rattle.drawn_networks.proofs.with_region.Statement.{statement}
 use Rattle.drawn_networks.proofs.with_region.Tie as tie
 
 abbrev Inv-loop : tie.InvT-loop
-Inv-loop seed₀ shape begun₀ counter₀ end seed begun counter = Unit {0}
+Inv-loop seed₀ shape left₀ more₀ counter₀ end seed left more counter = Unit {0}
 
 abbrev μ-loop : tie.MeasureT-loop
-μ-loop seed₀ shape begun₀ counter₀ end seed begun counter = end - counter
+μ-loop seed₀ shape left₀ more₀ counter₀ end seed left more counter = end - counter
 
 loop-holds : tie.Need-loop-holds Inv-loop μ-loop
 loop-holds c = tt

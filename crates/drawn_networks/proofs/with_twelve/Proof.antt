@@ -23,9 +23,6 @@ large-shape-requires c κs = search needs
 planned-requires : tie.Need-planned-requires Inv-loop μ-loop
 planned-requires c κs = search needs
 
-relieved-requires : tie.Need-relieved-requires Inv-loop μ-loop
-relieved-requires c κs = search needs
-
 has-twelve-requires : tie.Need-has-twelve-requires Inv-loop μ-loop
 has-twelve-requires c κs = search needs
 
@@ -54,7 +51,6 @@ with-twelve-spec =
     loop-holds
     large-shape-requires
     planned-requires
-    relieved-requires
     has-twelve-requires
     returns
     add-counter

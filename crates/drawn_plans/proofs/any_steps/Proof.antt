@@ -6,10 +6,10 @@ use Rattle.drawn_plans.proofs.any_steps.Statement.{statement}
 use Rattle.drawn_plans.proofs.any_steps.Tie as tie
 
 abbrev Inv-loop : tie.InvT-loop
-Inv-loop all switch count seed₀ links₀ states₀ on₀ n times end₀ counter₀ seed links states on end counter = Unit {0}
+Inv-loop all switches seed₀ plan₀ times counter₀ seed plan counter = Unit {0}
 
 abbrev μ-loop : tie.MeasureT-loop
-μ-loop all switch count seed₀ links₀ states₀ on₀ n times end₀ counter₀ seed links states on end counter = times - counter
+μ-loop all switches seed₀ plan₀ times counter₀ seed plan counter = times - counter
 
 loop-holds : tie.Need-loop-holds Inv-loop μ-loop
 loop-holds c = tt

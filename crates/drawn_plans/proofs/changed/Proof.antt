@@ -6,10 +6,13 @@ use Rattle.drawn_plans.proofs.changed.Statement.{statement}
 use Rattle.drawn_plans.proofs.changed.Tie as tie
 
 abbrev Inv-loop : tie.InvT-loop
-Inv-loop all switches steps change seed₀ links₀ states₀ start switch on₀ n₀ i₀ i-end seed links states on n i = Unit {0}
+Inv-loop all switches printed way place seed₀ plan₀ count i₀ i-end seed plan i = Unit {0}
 
 abbrev μ-loop : tie.MeasureT-loop
-μ-loop all switches steps change seed₀ links₀ states₀ start switch on₀ n₀ i₀ i-end seed links states on n i = i-end - i
+μ-loop all switches printed way place seed₀ plan₀ count i₀ i-end seed plan i = i-end - i
+
+at-requires : tie.Need-at-requires Inv-loop μ-loop
+at-requires c κs = search needs
 
 add-requires : tie.Need-add-requires Inv-loop μ-loop
 add-requires c κs = search needs
@@ -17,14 +20,23 @@ add-requires c κs = search needs
 loop-holds : tie.Need-loop-holds Inv-loop μ-loop
 loop-holds c = tt
 
-at-requires : tie.Need-at-requires Inv-loop μ-loop
-at-requires c κs = search needs
+add-requires-2 : tie.Need-add-requires-2 Inv-loop μ-loop
+add-requires-2 c κs = search needs
+
+at-requires-2 : tie.Need-at-requires-2 Inv-loop μ-loop
+at-requires-2 c κs = search needs
 
 inserted-requires : tie.Need-inserted-requires Inv-loop μ-loop
 inserted-requires c κs = search needs
 
 kept-requires : tie.Need-kept-requires Inv-loop μ-loop
 kept-requires c κs = search needs
+
+at-requires-3 : tie.Need-at-requires-3 Inv-loop μ-loop
+at-requires-3 c κs = search needs
+
+push-requires : tie.Need-push-requires Inv-loop μ-loop
+push-requires c κs = search needs
 
 add-i : tie.Need-add-i Inv-loop μ-loop
 add-i c = search needs
@@ -44,11 +56,15 @@ changed-spec =
     (tie.spec
     Inv-loop
     μ-loop
+    at-requires
     add-requires
     loop-holds
-    at-requires
+    add-requires-2
+    at-requires-2
     inserted-requires
     kept-requires
+    at-requires-3
+    push-requires
     add-i
     loop-less
     loop-again

@@ -6,10 +6,10 @@ use Rattle.drawn_plans.proofs.listed.Statement.{statement}
 use Rattle.drawn_plans.proofs.listed.Tie as tie
 
 abbrev Inv-loop : tie.InvT-loop
-Inv-loop set form steps₀ n links forms end₀ i₀ i-end steps end i = Unit {0}
+Inv-loop set form printed₀ links forms i₀ i-end printed i = Unit {0}
 
 abbrev μ-loop : tie.MeasureT-loop
-μ-loop set form steps₀ n links forms end₀ i₀ i-end steps end i = i-end - i
+μ-loop set form printed₀ links forms i₀ i-end printed i = i-end - i
 
 loop-holds : tie.Need-loop-holds Inv-loop μ-loop
 loop-holds c = tt
@@ -23,11 +23,11 @@ at-requires c κs = search needs
 at-requires-2 : tie.Need-at-requires-2 Inv-loop μ-loop
 at-requires-2 c κs = search needs
 
-put-requires : tie.Need-put-requires Inv-loop μ-loop
-put-requires c κs = search needs
+step-requires : tie.Need-step-requires Inv-loop μ-loop
+step-requires c κs = search needs
 
-add-requires : tie.Need-add-requires Inv-loop μ-loop
-add-requires c κs = search needs
+append-requires : tie.Need-append-requires Inv-loop μ-loop
+append-requires c κs = search needs
 
 add-i : tie.Need-add-i Inv-loop μ-loop
 add-i c = search needs
@@ -51,8 +51,8 @@ listed-spec =
     has-requires
     at-requires
     at-requires-2
-    put-requires
-    add-requires
+    step-requires
+    append-requires
     add-i
     loop-less
     loop-again

@@ -6,16 +6,19 @@ use Rattle.expected_lines.proofs.steps_tried.Statement.{statement}
 use Rattle.expected_lines.proofs.steps_tried.Tie as tie
 
 abbrev Inv-loop : tie.InvT-loop
-Inv-loop net study links states count on₀ prices cost₀ i₀ on cost i = Unit {0}
+Inv-loop net study plan on₀ prices cost₀ i₀ i-end on cost i = Unit {0}
 
 abbrev μ-loop : tie.MeasureT-loop
-μ-loop net study links states count on₀ prices cost₀ i₀ on cost i = count - i
+μ-loop net study plan on₀ prices cost₀ i₀ i-end on cost i = i-end - i
+
+entry-requires : tie.Need-entry-requires Inv-loop μ-loop
+entry-requires c κs = search needs
 
 loop-holds : tie.Need-loop-holds Inv-loop μ-loop
 loop-holds c = tt
 
-entry-requires : tie.Need-entry-requires Inv-loop μ-loop
-entry-requires c κs = search needs
+add-requires : tie.Need-add-requires Inv-loop μ-loop
+add-requires c κs = search needs
 
 entry-requires-2 : tie.Need-entry-requires-2 Inv-loop μ-loop
 entry-requires-2 c κs = search needs
@@ -32,8 +35,8 @@ returns c = search needs
 at-requires : tie.Need-at-requires Inv-loop μ-loop
 at-requires c κs = search needs
 
-add-requires : tie.Need-add-requires Inv-loop μ-loop
-add-requires c κs = search needs
+add-requires-2 : tie.Need-add-requires-2 Inv-loop μ-loop
+add-requires-2 c κs = search needs
 
 add-i : tie.Need-add-i Inv-loop μ-loop
 add-i c = search needs
@@ -53,14 +56,15 @@ steps-tried-spec =
     (tie.spec
     Inv-loop
     μ-loop
-    loop-holds
     entry-requires
+    loop-holds
+    add-requires
     entry-requires-2
     reason-requires
     add-t15
     returns
     at-requires
-    add-requires
+    add-requires-2
     add-i
     loop-less
     loop-again

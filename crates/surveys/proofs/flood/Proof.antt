@@ -6,10 +6,10 @@ use Rattle.surveys.proofs.flood.Statement.{statement}
 use Rattle.surveys.proofs.flood.Tie as tie
 
 abbrev Inv-loop : tie.InvT-loop
-Inv-loop from to on links via₀ counter₀ via counter = Unit {0}
+Inv-loop net on via₀ counter₀ via counter = Unit {0}
 
 abbrev μ-loop : tie.MeasureT-loop
-μ-loop from to on links via₀ counter₀ via counter = 65 - counter
+μ-loop net on via₀ counter₀ via counter = 65 - counter
 
 loop-holds : tie.Need-loop-holds Inv-loop μ-loop
 loop-holds c = tt

@@ -6,10 +6,10 @@ use Rattle.surveys.proofs.flood_from.Statement.{statement}
 use Rattle.surveys.proofs.flood_from.Tie as tie
 
 abbrev Inv-loop : tie.InvT-loop
-Inv-loop net low high barred on flags from to via₀ x₀ x-end via x = Unit {0}
+Inv-loop net low high barred on flags via₀ x₀ x-end via x = Unit {0}
 
 abbrev μ-loop : tie.MeasureT-loop
-μ-loop net low high barred on flags from to via₀ x₀ x-end via x = x-end - x
+μ-loop net low high barred on flags via₀ x₀ x-end via x = x-end - x
 
 loop-holds : tie.Need-loop-holds Inv-loop μ-loop
 loop-holds c = tt
@@ -19,6 +19,9 @@ at-requires c κs = search needs
 
 at-requires-2 : tie.Need-at-requires-2 Inv-loop μ-loop
 at-requires-2 c κs = search needs
+
+is-origin-requires : tie.Need-is-origin-requires Inv-loop μ-loop
+is-origin-requires c κs = search needs
 
 add-requires : tie.Need-add-requires Inv-loop μ-loop
 add-requires c κs = search needs
@@ -50,6 +53,7 @@ flood-from-spec =
     loop-holds
     at-requires
     at-requires-2
+    is-origin-requires
     add-requires
     put-requires
     add-x

@@ -6,10 +6,10 @@ use Rattle.surveys.proofs.links_in.Statement.{statement}
 use Rattle.surveys.proofs.links_in.Tie as tie
 
 abbrev Inv-loop : tie.InvT-loop
-Inv-loop from on links part n₀ k₀ n k = Unit {0}
+Inv-loop on part from n₀ k₀ k-end n k = Unit {0}
 
 abbrev μ-loop : tie.MeasureT-loop
-μ-loop from on links part n₀ k₀ n k = links - k
+μ-loop on part from n₀ k₀ k-end n k = k-end - k
 
 loop-holds : tie.Need-loop-holds Inv-loop μ-loop
 loop-holds c = tt

@@ -6,10 +6,10 @@ use Rattle.surveys.proofs.part_of.Statement.{statement}
 use Rattle.surveys.proofs.part_of.Tie as tie
 
 abbrev Inv-loop : tie.InvT-loop
-Inv-loop flags part elements seen₀ found₀ x₀ seen found x = Unit {0}
+Inv-loop part seen₀ flags found₀ x₀ x-end seen found x = Unit {0}
 
 abbrev μ-loop : tie.MeasureT-loop
-μ-loop flags part elements seen₀ found₀ x₀ seen found x = elements - x
+μ-loop part seen₀ flags found₀ x₀ x-end seen found x = x-end - x
 
 loop-holds : tie.Need-loop-holds Inv-loop μ-loop
 loop-holds c = tt

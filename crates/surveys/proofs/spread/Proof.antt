@@ -6,10 +6,10 @@ use Rattle.surveys.proofs.spread.Statement.{statement}
 use Rattle.surveys.proofs.spread.Tie as tie
 
 abbrev Inv-loop : tie.InvT-loop
-Inv-loop from to on links via₀ changed₀ k₀ via changed k = Unit {0}
+Inv-loop on via₀ from to changed₀ k₀ k-end via changed k = Unit {0}
 
 abbrev μ-loop : tie.MeasureT-loop
-μ-loop from to on links via₀ changed₀ k₀ via changed k = links - k
+μ-loop on via₀ from to changed₀ k₀ k-end via changed k = k-end - k
 
 loop-holds : tie.Need-loop-holds Inv-loop μ-loop
 loop-holds c = tt
@@ -23,11 +23,8 @@ at-requires-2 c κs = search needs
 at-requires-3 : tie.Need-at-requires-3 Inv-loop μ-loop
 at-requires-3 c κs = search needs
 
-cross-requires : tie.Need-cross-requires Inv-loop μ-loop
-cross-requires c κs = search needs
-
-cross-requires-2 : tie.Need-cross-requires-2 Inv-loop μ-loop
-cross-requires-2 c κs = search needs
+cross-either-requires : tie.Need-cross-either-requires Inv-loop μ-loop
+cross-either-requires c κs = search needs
 
 add-k : tie.Need-add-k Inv-loop μ-loop
 add-k c = search needs
@@ -51,8 +48,7 @@ spread-spec =
     at-requires
     at-requires-2
     at-requires-3
-    cross-requires
-    cross-requires-2
+    cross-either-requires
     add-k
     loop-less
     loop-again

@@ -6,10 +6,10 @@ use Rattle.surveys.proofs.survey.Statement.{statement}
 use Rattle.surveys.proofs.survey.Tie as tie
 
 abbrev Inv-loop : tie.InvT-loop
-Inv-loop net on flags from to seen₀ places₀ x₀ x-end seen places x = Unit {0}
+Inv-loop net on seen₀ places₀ x₀ x-end seen places x = Unit {0}
 
 abbrev μ-loop : tie.MeasureT-loop
-μ-loop net on flags from to seen₀ places₀ x₀ x-end seen places x = x-end - x
+μ-loop net on seen₀ places₀ x₀ x-end seen places x = x-end - x
 
 loop-holds : tie.Need-loop-holds Inv-loop μ-loop
 loop-holds c = tt
@@ -17,23 +17,8 @@ loop-holds c = tt
 at-requires : tie.Need-at-requires Inv-loop μ-loop
 at-requires c κs = search needs
 
-add-requires : tie.Need-add-requires Inv-loop μ-loop
-add-requires c κs = search needs
-
-put-requires : tie.Need-put-requires Inv-loop μ-loop
-put-requires c κs = search needs
-
-flood-requires : tie.Need-flood-requires Inv-loop μ-loop
-flood-requires c κs = search needs
-
-part-of-requires : tie.Need-part-of-requires Inv-loop μ-loop
-part-of-requires c κs = search needs
-
-links-in-requires : tie.Need-links-in-requires Inv-loop μ-loop
-links-in-requires c κs = search needs
-
-with-part-requires : tie.Need-with-part-requires Inv-loop μ-loop
-with-part-requires c κs = search needs
+with-part-from-requires : tie.Need-with-part-from-requires Inv-loop μ-loop
+with-part-from-requires c κs = search needs
 
 add-x : tie.Need-add-x Inv-loop μ-loop
 add-x c = search needs
@@ -55,12 +40,7 @@ survey-spec =
     μ-loop
     loop-holds
     at-requires
-    add-requires
-    put-requires
-    flood-requires
-    part-of-requires
-    links-in-requires
-    with-part-requires
+    with-part-from-requires
     add-x
     loop-less
     loop-again

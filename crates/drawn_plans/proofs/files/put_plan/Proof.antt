@@ -6,10 +6,13 @@ use Rattle.drawn_plans.proofs.files.put_plan.Statement.{statement}
 use Rattle.drawn_plans.proofs.files.put_plan.Tie as tie
 
 abbrev Inv-loop : tie.InvT-loop
-Inv-loop file₀ n links states count head end₀ i₀ file end i = Unit {0}
+Inv-loop file₀ n plan count head end₀ i₀ file end i = Unit {0}
 
 abbrev μ-loop : tie.MeasureT-loop
-μ-loop file₀ n links states count head end₀ i₀ file end i = count - i
+μ-loop file₀ n plan count head end₀ i₀ file end i = count - i
+
+entry-requires : tie.Need-entry-requires Inv-loop μ-loop
+entry-requires c κs = search needs
 
 put-pair-requires : tie.Need-put-pair-requires Inv-loop μ-loop
 put-pair-requires c κs = search needs
@@ -20,17 +23,14 @@ put-word-requires c κs = search needs
 loop-holds : tie.Need-loop-holds Inv-loop μ-loop
 loop-holds c = tt
 
-put-pair-requires-2 : tie.Need-put-pair-requires-2 Inv-loop μ-loop
-put-pair-requires-2 c κs = search needs
-
-entry-requires : tie.Need-entry-requires Inv-loop μ-loop
-entry-requires c κs = search needs
+add-requires : tie.Need-add-requires Inv-loop μ-loop
+add-requires c κs = search needs
 
 entry-requires-2 : tie.Need-entry-requires-2 Inv-loop μ-loop
 entry-requires-2 c κs = search needs
 
-put-pair-requires-3 : tie.Need-put-pair-requires-3 Inv-loop μ-loop
-put-pair-requires-3 c κs = search needs
+put-four-requires : tie.Need-put-four-requires Inv-loop μ-loop
+put-four-requires c κs = search needs
 
 add-i : tie.Need-add-i Inv-loop μ-loop
 add-i c = search needs
@@ -41,8 +41,8 @@ loop-less c = search needs
 loop-again : tie.Need-loop-again Inv-loop μ-loop
 loop-again c = tt
 
-put-pair-requires-4 : tie.Need-put-pair-requires-4 Inv-loop μ-loop
-put-pair-requires-4 c κs = search needs
+put-pair-requires-2 : tie.Need-put-pair-requires-2 Inv-loop μ-loop
+put-pair-requires-2 c κs = search needs
 
 returns : tie.Need-returns Inv-loop μ-loop
 returns c = search needs
@@ -53,15 +53,15 @@ put-plan-spec =
     (tie.spec
     Inv-loop
     μ-loop
+    entry-requires
     put-pair-requires
     put-word-requires
     loop-holds
-    put-pair-requires-2
-    entry-requires
+    add-requires
     entry-requires-2
-    put-pair-requires-3
+    put-four-requires
     add-i
     loop-less
     loop-again
-    put-pair-requires-4
+    put-pair-requires-2
     returns)

@@ -1,20 +1,24 @@
 -- What the functions of this crate compute over arrays, in the words of `planning`.
 -- Assumes nothing.
 use mathlib.Core.Path.{_≡_}
-use mathlib.Core.Bool.{Bool}
-use mathlib.Core.List.{List}
+use mathlib.Core.Bool.{Bool, true, false}
+use mathlib.Core.List.{List, [], _∷_}
 use Prim.Native.Nat.{ℕ, _+_, _-_, _^_, _<_, _≤_}
+use lib.Dec.{eqb}
 use lib.ListN.{length}
-use Rattle.feeding.specs.Networks.{Net, at, isIn}
-use Rattle.parts.specs.Labelling.{Falls}
-use Rattle.planning.specs.Sets.{passing, setsFrom, switchesOf, operableCount}
-use Rattle.planning.specs.Candidates.{Switching, candidate?, listed, deciding}
+use Rattle.feeding.specs.Networks.{at, isIn}
+use Rattle.parts.specs.Labelling.{Falls, rootOf}
+use Rattle.planning.specs.Candidates.{Switching, listed, deciding, joining}
 
 -- the switches that arrays hold
 unfoldable pub switching : (from to closed : List ℕ) → Switching
 switching from to closed = record { endA = at from; endB = at to; closed = isIn closed }
 
--- the sets that are listed from switch i of `count` on, and those with switch i decided
+-- the set s, where all the parts that waited are served
+unfoldable pub servedIn : (total served s : ℕ) → List ℕ
+servedIn total served s = elim (eqb served total) [ true ↦ s ∷ [] | false ↦ [] ]
+
+-- the sets that are listed from switch i of `count` on, those with switch i decided, and those with it closed
 unfoldable pub listedIn : (from to closed : List ℕ) (total count i served s : ℕ) (parent holds : List ℕ) → List ℕ
 listedIn from to closed total count i served s parent holds = listed (switching from to closed) total (count - i) i served s parent holds
 
@@ -22,9 +26,9 @@ unfoldable pub decidedIn : (from to closed : List ℕ) (total count i : ℕ) (op
 decidedIn from to closed total count i operate served s parent holds =
     deciding (switching from to closed) (listed (switching from to closed) total (count - (i + 1)) (i + 1)) i operate served s parent holds
 
--- all sets that are candidates, in the set order
-unfoldable pub candidatesOf : Net → List ℕ
-candidatesOf net = passing (λ s. candidate? net (switchesOf net s)) (setsFrom (operableCount net) 0)
+unfoldable pub joinedIn : (from to closed : List ℕ) (total count i served s : ℕ) (parent holds : List ℕ) → List ℕ
+joinedIn from to closed total count i served s parent holds =
+    joining (listed (switching from to closed) total (count - (i + 1)) (i + 1)) (rootOf parent (at from i)) (rootOf parent (at to i)) served s parent holds
 
 -- a search stands at switch i of at most 12: the ends are elements, parents fall, and the numbers fit
 pub record Searches (from to closed parent holds : List ℕ) (count i served s : ℕ) : Type 0 where

@@ -1,4 +1,4 @@
-// Random numbers.
+// Random numbers, for the programs that draw networks and plans. Its functions are proved safe.
 ghost use Prim.Native.Nat.{_<_};
 
 // A number below `below`, which is at most 32,768, or 0 where that is 0; the state moves on.

@@ -1,24 +1,27 @@
--- `drawn_networks::renamed` is safe and ends: the loop counts up to its end.
+-- `drawn_networks::ends_moved` is safe and ends: the loop counts up to its end.
 -- Assumes nothing.
 use Prim.Native.Nat.{_-_}
 use borrow.Author.Needs.{needs}
-use Rattle.drawn_networks.proofs.renamed.Statement.{statement}
-use Rattle.drawn_networks.proofs.renamed.Tie as tie
+use Rattle.drawn_networks.proofs.ends_moved.Statement.{statement}
+use Rattle.drawn_networks.proofs.ends_moved.Tie as tie
 
 abbrev Inv-loop : tie.InvT-loop
-Inv-loop ends links numbers other₀ k₀ other k = Unit {0}
+Inv-loop ends links y elements x other₀ k₀ other k = Unit {0}
 
 abbrev μ-loop : tie.MeasureT-loop
-μ-loop ends links numbers other₀ k₀ other k = links - k
+μ-loop ends links y elements x other₀ k₀ other k = links - k
 
 loop-holds : tie.Need-loop-holds Inv-loop μ-loop
 loop-holds c = tt
 
+number-requires : tie.Need-number-requires Inv-loop μ-loop
+number-requires c κs = search needs
+
 at-requires : tie.Need-at-requires Inv-loop μ-loop
 at-requires c κs = search needs
 
-at-requires-2 : tie.Need-at-requires-2 Inv-loop μ-loop
-at-requires-2 c κs = search needs
+number-requires-2 : tie.Need-number-requires-2 Inv-loop μ-loop
+number-requires-2 c κs = search needs
 
 put-requires : tie.Need-put-requires Inv-loop μ-loop
 put-requires c κs = search needs
@@ -35,15 +38,16 @@ loop-again c = tt
 returns : tie.Need-returns Inv-loop μ-loop
 returns c = search needs
 
-pub renamed-spec : {M : Type 1} → statement M
-renamed-spec =
+pub ends-moved-spec : {M : Type 1} → statement M
+ends-moved-spec =
     tie.close
     (tie.spec
     Inv-loop
     μ-loop
     loop-holds
+    number-requires
     at-requires
-    at-requires-2
+    number-requires-2
     put-requires
     add-k
     loop-less

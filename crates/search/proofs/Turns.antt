@@ -7,7 +7,7 @@ use Prim.Native.Nat.{ℕ, suc, _+_, _*_, _-_, _^_, _<_, _≤_, min, max}
 use native.Mathlib.Nat.{pow-le-pow-right}
 use native.Mathlib.Numerals.{add-one}
 use native.Mathlib.Omega.{arith}
-use lib.Dec.{eqb, ltb}
+use lib.Dec.{ltb}
 use lib.ListN.{length, set, length-set, length-append}
 use lib.Seq.{sets, set-set, set-getD}
 use borrow.Author.Tests.{eq-eqb, ne-eqb, lt-ltb, le-ltb, ltb-true, ltb-false}
@@ -20,7 +20,7 @@ use Rattle.parts.specs.Labelling.{rootOf}
 use Rattle.parts.proofs.Roots.{root-in, root-is, falls-set}
 use Rattle.planning.specs.Candidates.{clash, together, serves, listed, joining}
 use Rattle.planning.proofs.Listing.{listed-end, listed-short, listed-next, deciding-open, deciding-closed, joining-loop, joining-clash, joining-on}
-use Rattle.candidates.specs.Searching.{Searches, switching, listedIn, decidedIn}
+use Rattle.search.specs.Searching.{Searches, switching, servedIn, listedIn, decidedIn, joinedIn}
 
 -- what a function leaves that lists xs from `at` on
 abbrev pub Leaves : (xs found parent holds : List ℕ) (place r : ℕ) (found′ parent′ holds′ : List ℕ) → Type 0
@@ -32,29 +32,41 @@ leaves-none xs found parent holds place e = rw e (omega arith, (refl, (refl, ref
 
 -- ---- all switches are chosen, or none can follow
 
+module _ (total served s : ℕ) (found : List ℕ) (place : ℕ) where
+  served-is : served ≡ total → servedIn total served s ≡ s ∷ []
+  unfolding servedIn
+  served-is e = rw (eq-eqb served total e, servedIn)
+
+  unserved-is : (served ≡ total → ⊥) → servedIn total served s ≡ []
+  unfolding servedIn
+  unserved-is e = rw (ne-eqb served total e, servedIn)
+
+  pub served-room : served ≡ total → place + length (servedIn total served s) ≤ 4096 → place < 4096
+  served-room e room = omega (arith, ap length (served-is e))
+
+  pub served-listed : served ≡ total
+      → (place + 1 ≡ place + length (servedIn total served s)) × (set found place s ≡ sets found place (servedIn total served s))
+  served-listed e = rw (served-is e) (refl, refl)
+
+  pub unserved-listed : (served ≡ total → ⊥)
+      → (place ≡ place + length (servedIn total served s)) × (found ≡ sets found place (servedIn total served s))
+  unserved-listed e = rw (unserved-is e) (omega arith, refl)
+
 module _ (from to closed : List ℕ) (total count i served s : ℕ) (p h found : List ℕ) (place : ℕ) where
-  last-end : i ≡ count → listedIn from to closed total count i served s p h ≡ elim (eqb served total) [ true ↦ s ∷ [] | false ↦ [] ]
-  unfolding listedIn
-  last-end e =
+  last-is : i ≡ count → listedIn from to closed total count i served s p h ≡ servedIn total served s
+  unfolding listedIn servedIn
+  last-is e =
       let z : count - i ≡ 0 = omega arith in
       rw z (listed-end (switching from to closed) total i served s p h)
 
-  last-is : i ≡ count → served ≡ total → listedIn from to closed total count i served s p h ≡ s ∷ []
-  last-is e f = last-end e ∙ rw (eq-eqb served total f)
+  pub last-room : i ≡ count → place + length (listedIn from to closed total count i served s p h) ≤ 4096
+      → place + length (servedIn total served s) ≤ 4096
+  last-room e room = rw (last-is e) at room
 
-  last-not : i ≡ count → (served ≡ total → ⊥) → listedIn from to closed total count i served s p h ≡ []
-  last-not e f = last-end e ∙ rw (ne-eqb served total f)
-
-  pub last-room : i ≡ count → served ≡ total → place + length (listedIn from to closed total count i served s p h) ≤ 4096 → place < 4096
-  last-room e f room = omega (arith, ap length (last-is e f))
-
-  pub last-listed : i ≡ count → served ≡ total
-      → Leaves (listedIn from to closed total count i served s p h) found p h place (place + 1) (set found place s) p h
-  last-listed e f = rw (last-is e f) (refl, (refl, (refl, refl)))
-
-  pub last-unlisted : i ≡ count → (served ≡ total → ⊥)
-      → Leaves (listedIn from to closed total count i served s p h) found p h place place found p h
-  last-unlisted e f = leaves-none _ found p h place (last-not e f)
+  pub last-leaves : (r : ℕ) (found′ : List ℕ) → i ≡ count
+      → (r ≡ place + length (servedIn total served s)) × (found′ ≡ sets found place (servedIn total served s))
+      → Leaves (listedIn from to closed total count i served s p h) found p h place r found′ p h
+  last-leaves r found′ e (a, b) = rw (last-is e) (a, (b, (refl, refl)))
 
   few-is : i < count → served + (count - i) < total → listedIn from to closed total count i served s p h ≡ []
   unfolding listedIn
@@ -170,7 +182,24 @@ module _ (from to closed : List ℕ) (total count i : ℕ) (operate : Bool) (ser
       → Leaves (decidedIn from to closed total count i operate served s p h) found p h place r found′ p′ h′
   open-leaves found place r found′ p′ h′ left = rw open-is left
 
--- ---- a switch that ends closed, between parts with the roots x and y
+-- ---- a switch that ends closed
+
+module _ (from to closed : List ℕ) (total count i : ℕ) (operate : Bool) (served s : ℕ) (p h : List ℕ)
+    (ends : differ (isIn closed i) operate ≡ true) where
+  closed-is : decidedIn from to closed total count i operate served s p h ≡ joinedIn from to closed total count i served s p h
+  unfolding decidedIn joinedIn switching
+  closed-is = deciding-closed (switching from to closed) (listed (switching from to closed) total (count - (i + 1)) (i + 1)) i operate served s p h ends
+
+  pub closed-room : (place : ℕ) → place + length (decidedIn from to closed total count i operate served s p h) ≤ 4096
+      → place + length (joinedIn from to closed total count i served s p h) ≤ 4096
+  closed-room place room = rw closed-is at room
+
+  pub closed-leaves : (found : List ℕ) (place r : ℕ) (found′ p′ h′ : List ℕ)
+      → Leaves (joinedIn from to closed total count i served s p h) found p h place r found′ p′ h′
+      → Leaves (decidedIn from to closed total count i operate served s p h) found p h place r found′ p′ h′
+  closed-leaves found place r found′ p′ h′ left = rw closed-is left
+
+-- ---- a join of the parts with the roots x and y
 
 module _ (from to closed p h : List ℕ) (count i served s : ℕ) (z : Searches from to closed p h count (i + 1) served s) where
   pub root-a-in : (x : ℕ) → x ≡ rootOf p (at from i) → x < 64
@@ -185,31 +214,29 @@ module _ (from to closed p h : List ℕ) (count i served s : ℕ) (z : Searches 
   pub higher-in : (x y hi : ℕ) → x ≡ rootOf p (at from i) → y ≡ rootOf p (at to i) → hi ≡ max x y → hi < 64
   higher-in x y hi e f g = omega (arith, root-a-in x e, root-b-in y f)
 
-module _ (from to closed : List ℕ) (total count i : ℕ) (operate : Bool) (served s : ℕ) (p h : List ℕ)
-    (ends : differ (isIn closed i) operate ≡ true) (x y : ℕ) (root-x : x ≡ rootOf p (at from i)) (root-y : y ≡ rootOf p (at to i)) where
-  closed-is : decidedIn from to closed total count i operate served s p h
+module _ (from to closed : List ℕ) (total count i served s : ℕ) (p h : List ℕ)
+    (x y : ℕ) (root-x : x ≡ rootOf p (at from i)) (root-y : y ≡ rootOf p (at to i)) where
+  joined-is : joinedIn from to closed total count i served s p h
       ≡ joining (listed (switching from to closed) total (count - (i + 1)) (i + 1)) x y served s p h
-  unfolding decidedIn switching
-  closed-is =
-      rw (root-x, root-y)
-      (deciding-closed (switching from to closed) (listed (switching from to closed) total (count - (i + 1)) (i + 1)) i operate served s p h ends)
+  unfolding joinedIn
+  joined-is = rw (root-x, root-y)
 
   pub loop-leaves : (found : List ℕ) (place : ℕ) → x ≡ y
-      → Leaves (decidedIn from to closed total count i operate served s p h) found p h place place found p h
-  loop-leaves found place e = leaves-none _ found p h place (closed-is ∙ joining-loop _ x y served s p h (eq-eqb x y e))
+      → Leaves (joinedIn from to closed total count i served s p h) found p h place place found p h
+  loop-leaves found place e = leaves-none _ found p h place (joined-is ∙ joining-loop _ x y served s p h (eq-eqb x y e))
 
   pub clash-leaves : (found : List ℕ) (place : ℕ) → (x ≡ y → ⊥) → clash (at h x) (at h y) ≡ true
-      → Leaves (decidedIn from to closed total count i operate served s p h) found p h place place found p h
-  clash-leaves found place e k = leaves-none _ found p h place (closed-is ∙ joining-clash _ x y served s p h (ne-eqb x y e) k)
+      → Leaves (joinedIn from to closed total count i served s p h) found p h place place found p h
+  clash-leaves found place e k = leaves-none _ found p h place (joined-is ∙ joining-clash _ x y served s p h (ne-eqb x y e) k)
 
   module _ (apart : x ≡ y → ⊥) (agree : clash (at h x) (at h y) ≡ false) (lo hi v n : ℕ) (lo-is : lo ≡ min x y) (hi-is : hi ≡ max x y)
       (v-is : v ≡ together (at h x) (at h y)) (n-is : n ≡ gate (serves (at h x) (at h y)) 1) where
-    join-is : decidedIn from to closed total count i operate served s p h
+    join-is : joinedIn from to closed total count i served s p h
         ≡ listedIn from to closed total count (i + 1) (served + n) s (set p hi lo) (set h lo v)
     unfolding listedIn
-    join-is = rw (lo-is, hi-is, v-is, n-is) (closed-is ∙ joining-on _ x y served s p h (ne-eqb x y apart) agree)
+    join-is = rw (lo-is, hi-is, v-is, n-is) (joined-is ∙ joining-on _ x y served s p h (ne-eqb x y apart) agree)
 
-    pub join-room : (place : ℕ) → place + length (decidedIn from to closed total count i operate served s p h) ≤ 4096
+    pub join-room : (place : ℕ) → place + length (joinedIn from to closed total count i served s p h) ≤ 4096
         → place + length (listedIn from to closed total count (i + 1) (served + n) s (set p hi lo) (set h lo v)) ≤ 4096
     join-room place room = rw join-is at room
 
@@ -226,17 +253,17 @@ module _ (from to closed : List ℕ) (total count i : ℕ) (operate : Bool) (ser
               let e : hi ≡ rootOf p (at from i) = omega (arith, ltb-false x y t) in
               rw e (root-is p (z .falls) (at from i))
 
-      pub join-undone : (found : List ℕ) (place r : ℕ) (found′ p′ h′ : List ℕ)
+      pub join-undone : (found : List ℕ) (place r : ℕ) (found′ p′ h′ : List ℕ) (own old : ℕ) → own ≡ hi → old ≡ at h lo
           → Leaves (listedIn from to closed total count (i + 1) (served + n) s (set p hi lo) (set h lo v)) found (set p hi lo) (set h lo v)
           place r found′ p′ h′
-          → Leaves (decidedIn from to closed total count i operate served s p h) found p h place r found′ (set p′ hi hi) (set h′ lo (at h lo))
-      join-undone found place r found′ p′ h′ (a, (b, (c, d))) = (
+          → Leaves (joinedIn from to closed total count i served s p h) found p h place r found′ (set p′ hi own) (set h′ lo old)
+      join-undone found place r found′ p′ h′ own old e f (a, (b, (c, d))) = (
         rw join-is a,
         (
           rw join-is b,
           (
-            ap (λ l. set l hi hi) c ∙ set-set p hi lo hi ∙ ap (set p hi) (sym root-again) ∙ set-getD p hi 0,
-            ap (λ l. set l lo (at h lo)) d ∙ set-set h lo v (at h lo) ∙ set-getD h lo 0,
+            ap (λ l. set l hi own) c ∙ set-set p hi lo own ∙ ap (set p hi) (e ∙ sym root-again) ∙ set-getD p hi 0,
+            ap (λ l. set l lo old) d ∙ set-set h lo v old ∙ ap (set h lo) f ∙ set-getD h lo 0,
           ),
         ),
       )
