@@ -13,10 +13,10 @@ use Rattle.network.specs.declared.refusal.Refusal.{Refusal}
 use Rattle.network.specs.declared.refusal.Rule.the-variants.{ByteAfterEnd, TooManyOperable}
 use Rattle.network.specs.Networks.{emptyNetwork}
 use Rattle.network.specs.Refusals.{pick}
-use Rattle.network_file.specs.declared.Answer.{Answer}
-use Rattle.network_file.specs.declared.Answer.the-variants.{Accepted, Refused}
+use Rattle.network.specs.declared.refusal.Answer.{Answer}
+use Rattle.network.specs.declared.refusal.Answer.the-variants.{Accepted, Refused}
 use Rattle.network_file.specs.declared.NetworkRead.{NetworkRead}
-use Rattle.network_file.specs.Accepted.{WellFormed}
+use Rattle.network.specs.Accepted.{WellFormed}
 use Rattle.network_file.specs.Inputs.{answerOf, valueOf, closed, networkInput, networkRead}
 use Rattle.network_file.specs.NetworkFiles.{networkFile}
 use Rattle.network_file.specs.Runs.{Outcome, refused, reached}

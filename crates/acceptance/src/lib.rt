@@ -1,16 +1,16 @@
 // Rules 14 to 18: a network that passed rules 1 to 13 is refused by the first that it breaks, or accepted.
 use ends::own_ends;
 use network::Network;
+use network::refusal::Answer;
 use network::refusal::Refusal;
 use network::refusal::Rule;
-use network_file::Answer;
 use network_file::NetworkRead;
 use network_file::read_network;
 use operable::operable_count;
 use safety::check;
 use sets::members_of;
 ghost use mathlib.Core.Path.{_≡_};
-ghost use Rattle.network_file.specs.Accepted.{WellFormed};
+ghost use Rattle.network.specs.Accepted.{WellFormed};
 ghost use Rattle.network_file.specs.Inputs.{networkInput, networkRead};
 ghost use Rattle.feeding.specs.Acceptance.{limited, answerTo};
 ghost use Rattle.acceptance.specs.Reading.{startSafety, handedOut, acceptedRead};

@@ -9,9 +9,9 @@ use lib.ListN.{length, getD}
 use Rattle.network.specs.declared.Network.{Network}
 use Rattle.stages.specs.declared.Stage.{Stage}
 use Rattle.stages.specs.declared.Stage.the-variants.{Over}
-use Rattle.network_file.specs.declared.Answer.the-variants.{Accepted, Refused}
+use Rattle.network.specs.declared.refusal.Answer.the-variants.{Accepted, Refused}
 use Rattle.network_file.specs.declared.NetworkRead.{NetworkRead}
-use Rattle.network_file.specs.Accepted.{WellFormed}
+use Rattle.network.specs.Accepted.{WellFormed}
 use Rattle.network_file.specs.Inputs.{networkInput, networkRead}
 use Rattle.network_file.specs.NetworkFiles.{networkFile}
 use Rattle.network_file.specs.Runs as Runs

@@ -5,9 +5,9 @@ use mathlib.Core.List.{List}
 use Prim.Native.Nat.{ℕ, _≤_, _<_}
 use Rattle.network.specs.declared.Network.{Network}
 use Rattle.network.specs.declared.refusal.Refusal.{Refusal}
-use Rattle.network_file.specs.Accepted.{WellFormed}
+use Rattle.network.specs.Accepted.{WellFormed}
 use Rattle.network_file.specs.Inputs.{networkInput, networkRead}
-use Rattle.network_file.specs.declared.Answer.the-variants as Answer·
+use Rattle.network.specs.declared.refusal.Answer.the-variants as Answer·
 use Rattle.network_file.specs.declared.NetworkRead.{NetworkRead}
 use Rattle.feeding.specs.Networks.{netOf}
 use Rattle.feeding.specs.Plans.{costOf, printedForm}

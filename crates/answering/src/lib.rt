@@ -2,7 +2,7 @@
 use acceptance::read_accepted;
 use cheapest::cheapest_set;
 use network::Network;
-use network_file::Answer;
+use network::refusal::Answer;
 use outcomes::Outcome;
 use outcomes::Reply;
 use outcomes::with_plan;
@@ -10,7 +10,7 @@ use outcomes::without_plan;
 use plan_file::plan::Plan;
 use planning::Best;
 ghost use mathlib.Core.Path.{_≡_};
-ghost use Rattle.network_file.specs.Accepted.{WellFormed};
+ghost use Rattle.network.specs.Accepted.{WellFormed};
 ghost use Rattle.feeding.specs.Networks.{netOf};
 ghost use Rattle.feeding.specs.Acceptance.{Starts};
 ghost use Rattle.outcomes.specs.Outcomes.{outcomeOf, outcome};

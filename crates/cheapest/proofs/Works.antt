@@ -10,7 +10,7 @@ use lib.ListN.{length, take, replicate, length-replicate, getD-replicate}
 use lib.Seq.{sets, sets-eq, take-at}
 use borrow.Author.Tests.{eq-eqb, eqb-true}
 use Rattle.network.specs.declared.Network.{Network}
-use Rattle.network_file.specs.Accepted.{WellFormed}
+use Rattle.network.specs.Accepted.{WellFormed}
 use Rattle.feeding.specs.Acceptance.{Starts}
 use Rattle.feeding.specs.Below.{bits}
 use Rattle.feeding.specs.Loads.{lowestOver}

@@ -14,7 +14,7 @@ use switches::switches_of;
 use switches::with_set;
 ghost use mathlib.Core.Path.{_≡_};
 ghost use lib.ListN.{length, take};
-ghost use Rattle.network_file.specs.Accepted.{WellFormed};
+ghost use Rattle.network.specs.Accepted.{WellFormed};
 ghost use Rattle.feeding.specs.Networks.{netOf, at, isIn};
 ghost use Rattle.feeding.specs.Acceptance.{Starts};
 ghost use Rattle.planning.specs.Sets.{none, scan, cheapestSet};

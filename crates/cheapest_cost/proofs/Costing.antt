@@ -6,9 +6,9 @@ use Prim.Native.Nat.{ℕ, _≤_, _<_}
 use native.Mathlib.Omega.{arith}
 use Rattle.network.specs.declared.Network.{Network}
 use Rattle.network.specs.declared.refusal.Refusal.{Refusal}
-use Rattle.network_file.specs.Accepted.{WellFormed}
-use Rattle.network_file.specs.declared.Answer.{Answer}
-use Rattle.network_file.specs.declared.Answer.the-variants as Answer·
+use Rattle.network.specs.Accepted.{WellFormed}
+use Rattle.network.specs.declared.refusal.Answer.{Answer}
+use Rattle.network.specs.declared.refusal.Answer.the-variants as Answer·
 use Rattle.network_file.specs.declared.NetworkRead.{NetworkRead}
 use Rattle.feeding.specs.Acceptance.{Starts}
 use Rattle.feeding.specs.Networks.{netOf}

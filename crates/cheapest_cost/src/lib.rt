@@ -2,10 +2,10 @@
 use acceptance::read_accepted;
 use cheapest::cheapest_set;
 use network::Network;
+use network::refusal::Answer;
 use network::refusal::Refusal;
-use network_file::Answer;
 use planning::Best;
-ghost use Rattle.network_file.specs.Accepted.{WellFormed};
+ghost use Rattle.network.specs.Accepted.{WellFormed};
 ghost use Rattle.feeding.specs.Networks.{netOf};
 ghost use Rattle.feeding.specs.Acceptance.{Starts};
 ghost use Rattle.cheapest_cost.specs.LeastCost.{CheapestIn, CheapestFor};

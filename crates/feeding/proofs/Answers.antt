@@ -9,8 +9,8 @@ use borrow.Author.Tests.{ltb-true, ltb-false, lt-ltb, le-ltb}
 use native.Mathlib.Omega.{arith}
 use Rattle.network.specs.declared.refusal.Rule.{Rule}
 use Rattle.network.specs.declared.refusal.Rule.the-variants.{NotATree, TwoSources, FaultWithSource, Overloaded, TooManyOperable}
-use Rattle.network_file.specs.declared.Answer.{Answer}
-use Rattle.network_file.specs.declared.Answer.the-variants.{Accepted, Refused}
+use Rattle.network.specs.declared.refusal.Answer.{Answer}
+use Rattle.network.specs.declared.refusal.Answer.the-variants.{Accepted, Refused}
 use Rattle.feeding.specs.Acceptance.{Answered, not-a-tree, two-sources, fault-with-source, overloaded, too-many, accepted}
 use Rattle.feeding.specs.Acceptance.{safety, limited, andThen, acceptance}
 use Rattle.feeding.specs.Below.{Lowest}

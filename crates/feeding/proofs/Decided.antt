@@ -8,8 +8,8 @@ use borrow.Author.Tests.{eqb-true, eqb-false, ltb-true, ltb-false, not-true}
 use native.Mathlib.Omega.{arith}
 use Rattle.network.specs.declared.refusal.Rule.{Rule}
 use Rattle.network.specs.declared.refusal.Rule.the-variants.{NotATree, TwoSources, FaultWithSource, Overloaded}
-use Rattle.network_file.specs.declared.Answer.{Answer}
-use Rattle.network_file.specs.declared.Answer.the-variants.{Accepted, Refused}
+use Rattle.network.specs.declared.refusal.Answer.{Answer}
+use Rattle.network.specs.declared.refusal.Answer.the-variants.{Accepted, Refused}
 use Rattle.feeding.specs.Acceptance.{brokenAt, safety}
 use Rattle.feeding.specs.Below.{Lowest}
 use Rattle.feeding.specs.Loads.{Fed, loadAt, lowestOver}

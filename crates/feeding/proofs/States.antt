@@ -6,7 +6,7 @@ use mathlib.Core.List.{List}
 use Prim.Native.Nat.{ℕ, zero, suc, _+_, _*_, _<_, _≤_, min}
 use native.Mathlib.Omega.{arith}
 use lib.Dec.{eqb, leb}
-use Rattle.network_file.specs.declared.Answer.the-variants.{Accepted}
+use Rattle.network.specs.declared.refusal.Answer.the-variants.{Accepted}
 use Rattle.network.specs.declared.refusal.Rule.the-variants.{NotATree, TwoSources, FaultWithSource, Overloaded}
 use Rattle.feeding.specs.Acceptance.{brokenAt, safety}
 use Rattle.feeding.specs.Below.{gate, sumTo, leastTo}

@@ -7,9 +7,9 @@ use mathlib.Core.List.{List}
 use lib.Dec.{eqb}
 use lib.ListN.{length}
 use Rattle.network.specs.declared.Network.{Network}
-use Rattle.network_file.specs.Accepted.{WellFormed}
-use Rattle.network_file.specs.declared.Answer.{Answer}
-use Rattle.network_file.specs.declared.Answer.the-variants.{Accepted}
+use Rattle.network.specs.Accepted.{WellFormed}
+use Rattle.network.specs.declared.refusal.Answer.{Answer}
+use Rattle.network.specs.declared.refusal.Answer.the-variants.{Accepted}
 use Rattle.feeding.specs.Acceptance.{Starts, Answered, not-a-tree, two-sources, fault-with-source, overloaded, too-many, accepted, answerTo}
 use Rattle.feeding.specs.Networks.{Formed, at, gridOf, netOf}
 use Rattle.feeding.specs.Plans.{Step, run, Good, ValidPlan, Matched}

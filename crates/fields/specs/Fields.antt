@@ -7,6 +7,7 @@ use lib.Dec.{eqb, ltb, leb}
 use lib.ListN.{getD}
 use Rattle.network.specs.declared.refusal.Rule.the-variants.{HeadOutOfRange, UnknownFlags, BadEnds, UnknownForm, UnsuitedCost, TooManySteps, UnknownLink, UnknownState}
 use Rattle.network.specs.Refusals.{Check, check, pick}
+use Rattle.network.specs.Accepted.{suits}
 
 -- "Numbers are unsigned, two bytes, low byte first"
 unfoldable pub word : List ℕ → ℕ → ℕ
@@ -30,10 +31,6 @@ headRules s at =
 -- Rule 6: "An element's flags exceed 3."
 unfoldable pub elementRules : List ℕ → ℕ → List Check
 elementRules s at = check UnknownFlags (ltb 3 (word s (at + 8))) ∷ []
-
--- "cost (0 for fixed, 1 to 65,535 for a switch)"
-abbrev pub suits : ℕ → ℕ → Bool
-suits form cost = pick (eqb form 0) (eqb cost 0) (not (eqb cost 0))
 
 -- Rules 7 to 9, in a network of so many elements: "A link has an end of E or more, or two equal ends." "A link's form exceeds 2."
 -- "A link's cost doesn't suit its form."

@@ -7,7 +7,8 @@ ghost use Prim.Native.Nat.{_+_, _<_, _≤_};
 ghost use lib.Dec.{eqb, ltb, leb};
 ghost use lib.ListN.{length};
 ghost use Rattle.network.specs.Refusals.{firstBroken};
-ghost use Rattle.fields.specs.Fields.{word, lengthOf, either, suits, headRules, elementRules, linkRules, planHeadRules, stepRules, fieldRules};
+ghost use Rattle.network.specs.Accepted.{suits};
+ghost use Rattle.fields.specs.Fields.{word, lengthOf, either, headRules, elementRules, linkRules, planHeadRules, stepRules, fieldRules};
 
 // The number of two bytes at an offset, low byte first.
 pub fn word_at(s: &[u8], at: usize) -> u16

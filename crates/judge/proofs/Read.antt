@@ -6,8 +6,8 @@ use Prim.Native.Nat.{ℕ, _<_}
 use native.Mathlib.Omega.{arith}
 use lib.ListN.{getD}
 use Rattle.network.specs.declared.Network.{Network}
-use Rattle.network_file.specs.declared.Answer.the-variants.{Accepted}
-use Rattle.network_file.specs.Accepted.{WellFormed}
+use Rattle.network.specs.declared.refusal.Answer.the-variants.{Accepted}
+use Rattle.network.specs.Accepted.{WellFormed}
 use Rattle.network_file.specs.Runs.{Outcome, refused, reached}
 use Rattle.network_file.proofs.Accepted.{network-well-formed}
 use Rattle.plan_file.specs.declared.plan.Plan.{Plan}

@@ -3,7 +3,7 @@ use acceptance::accept;
 use judge_input::read_network_and_plan;
 use mark_lines::mark_line;
 use marking::Mark;
-use network_file::Answer;
+use network::refusal::Answer;
 use plan_marks::marked;
 ghost use mathlib.Core.Path.{_≡_};
 ghost use lib.ListN.{length};

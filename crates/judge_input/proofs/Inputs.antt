@@ -7,8 +7,8 @@ use native.Mathlib.Omega.{arith}
 use Rattle.network.specs.declared.refusal.Refusal.{Refusal}
 use Rattle.network.specs.declared.Network.{Network}
 use Rattle.network.specs.Networks.{emptyNetwork}
-use Rattle.network_file.specs.declared.Answer.{Answer}
-use Rattle.network_file.specs.declared.Answer.the-variants.{Accepted, Refused}
+use Rattle.network.specs.declared.refusal.Answer.{Answer}
+use Rattle.network.specs.declared.refusal.Answer.the-variants.{Accepted, Refused}
 use Rattle.network_file.specs.Runs.{Outcome, refused, reached, andThen}
 use Rattle.network_file.specs.Inputs.{valueOf, answerOf}
 use Rattle.plan_file.specs.declared.plan.Plan.{Plan}

@@ -1,7 +1,7 @@
 // The judge's input, a network file with a plan file directly behind it: every byte string has one reading.
 use network::Network;
+use network::refusal::Answer;
 use network::refusal::Refusal;
-use network_file::Answer;
 use network_file::reader::Reached;
 use network_file::reader::network_file;
 use plan_file::plan::Plan;

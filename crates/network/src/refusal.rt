@@ -31,6 +31,12 @@ pub struct Refusal {
     pub place: usize,
 }
 
+// What an input gets of some rules: it is accepted, or refused by the first that it breaks.
+pub enum Answer {
+    Accepted,
+    Refused(Refusal),
+}
+
 // What a check of some rules says: none is broken, or the first that is.
 pub enum Verdict {
     Kept,

@@ -11,10 +11,11 @@ use Rattle.stages.specs.declared.Stage.the-variants.{Elements, Links}
 use Rattle.network.specs.declared.Element.{Element}
 use Rattle.network.specs.declared.Link.{Link}
 use Rattle.network.specs.declared.Network.{Network}
-use Rattle.fields.specs.Fields.{word, suits}
+use Rattle.fields.specs.Fields.{word}
+use Rattle.network.specs.Accepted.{suits}
 use Rattle.network_file.specs.Runs.{reached}
 use Rattle.network_file.specs.NetworkFiles.{elementOf, linkOf, networkFile}
-use Rattle.network_file.specs.Accepted.{WellFormed}
+use Rattle.network.specs.Accepted.{WellFormed}
 use Rattle.records.proofs.Due.{Whole, kind-there, as-kind, element-kept, link-kept}
 use Rattle.network_file.proofs.Sizes.{network-size}
 use Rattle.network_file.proofs.Contents.{network-holds}

@@ -11,8 +11,8 @@ use Rattle.network.specs.declared.refusal.Refusal.{Refusal}
 use Rattle.network.specs.declared.refusal.Rule.the-variants.{ByteAfterEnd}
 use Rattle.network.specs.declared.Network.{Network}
 use Rattle.network_file.specs.declared.reader.NetworkPart.{NetworkPart}
-use Rattle.network_file.specs.declared.Answer.{Answer}
-use Rattle.network_file.specs.declared.Answer.the-variants.{Accepted, Refused}
+use Rattle.network.specs.declared.refusal.Answer.{Answer}
+use Rattle.network.specs.declared.refusal.Answer.the-variants.{Accepted, Refused}
 use Rattle.network_file.specs.declared.NetworkRead.{NetworkRead}
 use Rattle.network.specs.Refusals.{pick}
 use Rattle.network.specs.Networks.{emptyNetwork}

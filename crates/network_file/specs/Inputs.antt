@@ -7,8 +7,8 @@ use lib.ListN.{length}
 use Rattle.network.specs.declared.refusal.Rule.the-variants.{ByteAfterEnd}
 use Rattle.stages.specs.declared.Stage.{Stage}
 use Rattle.network.specs.declared.Network.{Network}
-use Rattle.network_file.specs.declared.Answer.{Answer}
-use Rattle.network_file.specs.declared.Answer.the-variants.{Accepted, Refused}
+use Rattle.network.specs.declared.refusal.Answer.{Answer}
+use Rattle.network.specs.declared.refusal.Answer.the-variants.{Accepted, Refused}
 use Rattle.network_file.specs.declared.NetworkRead.{NetworkRead}
 use Rattle.network_file.specs.declared.reader.Reached.{Reached}
 use Rattle.network_file.specs.declared.reader.Reached.the-variants.{At, Refused as Reached·Refused}

@@ -1,4 +1,3 @@
 pub mod Runs
 pub mod NetworkFiles
 pub mod Inputs
-pub mod Accepted

@@ -4,15 +4,11 @@ pub mod reader;
 use crate::reader::Reached;
 use crate::reader::network_file;
 use network::Network;
+use network::refusal::Answer;
 use network::refusal::Refusal;
 use network::refusal::Rule;
 ghost use mathlib.Core.Path.{_≡_};
 ghost use Rattle.network_file.specs.Inputs.{networkInput, networkRead, endedBy};
-
-pub enum Answer {
-    Accepted,
-    Refused(Refusal),
-}
 
 pub struct NetworkRead {
     pub answer: Answer,

@@ -8,7 +8,7 @@ use sets::except;
 use sets::members_of;
 ghost use mathlib.Core.Path.{_≡_};
 ghost use lib.ListN.{length};
-ghost use Rattle.network_file.specs.Accepted.{WellFormed};
+ghost use Rattle.network.specs.Accepted.{WellFormed};
 ghost use Rattle.feeding.specs.Below.{bits};
 ghost use Rattle.feeding.specs.Networks.{netOf};
 ghost use Rattle.feeding.specs.Restoration.{operable?, operables};

@@ -11,7 +11,7 @@ use lib.Dec.{ltb}
 use borrow.Author.Tests.{ltb-true, ltb-false}
 use Rattle.network.specs.declared.Network.{Network}
 use Rattle.network.specs.declared.refusal.Refusal.{Refusal}
-use Rattle.network_file.specs.declared.Answer.the-variants as Answer·
+use Rattle.network.specs.declared.refusal.Answer.the-variants as Answer·
 use Rattle.network_file.specs.declared.NetworkRead.{NetworkRead}
 use Rattle.network_file.specs.Inputs.{networkRead}
 use Rattle.network_file.proofs.Decide.{network-decided}

@@ -8,7 +8,7 @@ use native.Mathlib.Omega.{arith}
 use lib.ListN.{length, getD}
 use Rattle.network.specs.declared.Network.{Network}
 use Rattle.network.specs.declared.refusal.Refusal.{Refusal}
-use Rattle.network_file.specs.Accepted.{WellFormed}
+use Rattle.network.specs.Accepted.{WellFormed}
 use Rattle.network_file.specs.Inputs.{networkInput, networkRead}
 use Rattle.network_file.specs.declared.NetworkRead.{NetworkRead}
 use Rattle.feeding.specs.Acceptance.{Starts}

@@ -9,7 +9,7 @@ use lib.Dec.{eqb}
 use lib.ListN.{length}
 use borrow.Author.Tests.{eqb-true, lt-ltb}
 use Rattle.network.specs.declared.Network.{Network}
-use Rattle.network_file.specs.Accepted.{WellFormed}
+use Rattle.network.specs.Accepted.{WellFormed}
 use Rattle.feeding.specs.Below.{gate, bits}
 use Rattle.feeding.specs.Networks.{Net, gridOf, netOf, at, isIn}
 use Rattle.feeding.specs.Parts.{Config, closedIn}

@@ -4,8 +4,8 @@ use mathlib.Core.List.{List}
 use Prim.Native.Nat.{ℕ}
 use lib.ListN.{length}
 use Rattle.network.specs.declared.Network.{Network}
-use Rattle.network_file.specs.declared.Answer.{Answer}
-use Rattle.network_file.specs.declared.Answer.the-variants as Answer·
+use Rattle.network.specs.declared.refusal.Answer.{Answer}
+use Rattle.network.specs.declared.refusal.Answer.the-variants as Answer·
 use Rattle.network_file.specs.declared.NetworkRead.{NetworkRead}
 use Rattle.network_file.specs.Inputs.{networkInput, networkRead}
 use Rattle.feeding.specs.Networks.{netOf}

@@ -10,7 +10,7 @@ use sums::sums_after;
 use switches::switches_of;
 use switches::with_set;
 ghost use mathlib.Core.Path.{_≡_};
-ghost use Rattle.network_file.specs.Accepted.{WellFormed};
+ghost use Rattle.network.specs.Accepted.{WellFormed};
 ghost use Rattle.feeding.specs.Networks.{netOf};
 ghost use Rattle.feeding.specs.Acceptance.{Starts};
 ghost use Rattle.feeding.specs.Plans.{costOf, printedForm};

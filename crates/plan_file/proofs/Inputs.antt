@@ -6,8 +6,8 @@ use Prim.Native.Nat.{ℕ}
 use Rattle.network.specs.declared.refusal.Refusal.{Refusal}
 use Rattle.plan_file.specs.declared.plan.Plan.{Plan}
 use Rattle.plan_file.specs.declared.reader.PlanPart.{PlanPart}
-use Rattle.network_file.specs.declared.Answer.{Answer}
-use Rattle.network_file.specs.declared.Answer.the-variants.{Accepted, Refused}
+use Rattle.network.specs.declared.refusal.Answer.{Answer}
+use Rattle.network.specs.declared.refusal.Answer.the-variants.{Accepted, Refused}
 use Rattle.plan_file.specs.declared.PlanRead.{PlanRead}
 use Rattle.network_file.specs.Runs.{Outcome, andThen}
 use Rattle.plan_file.specs.PlanFiles.{emptyPlan}

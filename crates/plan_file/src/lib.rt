@@ -4,7 +4,7 @@ pub mod reader;
 
 use crate::plan::Plan;
 use crate::reader::plan_file;
-use network_file::Answer;
+use network::refusal::Answer;
 use network_file::ended;
 ghost use mathlib.Core.Path.{_≡_};
 ghost use Rattle.plan_file.specs.Inputs.{planInput, planRead};

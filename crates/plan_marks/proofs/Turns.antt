@@ -7,8 +7,8 @@ use native.Mathlib.Omega.{arith}
 use borrow.Author.Tests.{lt-ltb, le-ltb}
 use Rattle.network.specs.declared.Network.{Network}
 use Rattle.network.specs.declared.refusal.Refusal.{Refusal}
-use Rattle.network_file.specs.declared.Answer.the-variants.{Refused}
-use Rattle.network_file.specs.Accepted.{WellFormed}
+use Rattle.network.specs.declared.refusal.Answer.the-variants.{Refused}
+use Rattle.network.specs.Accepted.{WellFormed}
 use Rattle.plan_file.specs.declared.plan.Plan.{Plan}
 use Rattle.plan_file.specs.Accepted.{WellFormedPlan}
 use Rattle.feeding.specs.Below.{bits}

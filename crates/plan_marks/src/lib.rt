@@ -13,7 +13,7 @@ use submitted::lowest_dark;
 use submitted::plan_cost;
 use submitted::states_after;
 ghost use mathlib.Core.Path.{_≡_};
-ghost use Rattle.network_file.specs.Accepted.{WellFormed};
+ghost use Rattle.network.specs.Accepted.{WellFormed};
 ghost use Rattle.plan_file.specs.Accepted.{WellFormedPlan};
 ghost use Rattle.feeding.specs.Networks.{netOf};
 ghost use Rattle.feeding.specs.Acceptance.{Starts};

@@ -3,7 +3,7 @@
 use mathlib.Core.Path.{_≡_, sym, ap, _∙_, subst}
 use Prim.Native.Nat.{ℕ, _≤_, _<_}
 use Rattle.network.specs.declared.Network.{Network}
-use Rattle.network_file.specs.Accepted.{WellFormed}
+use Rattle.network.specs.Accepted.{WellFormed}
 use Rattle.feeding.specs.Networks.{gridOf, netOf}
 use Rattle.feeding.specs.Plans.{setCost}
 use Rattle.planning.specs.declared.Best.{Best}

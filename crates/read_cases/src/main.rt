@@ -5,8 +5,8 @@
 use libc::STDOUT_FILENO;
 use network::Network;
 use network::refusal;
+use network::refusal::Answer;
 use network::refusal::Refusal;
-use network_file::Answer;
 use plan_file::plan::Plan;
 use plan_writer::Written;
 

@@ -8,7 +8,7 @@ use native.Mathlib.Omega.{arith}
 use lib.Dec.{eqb}
 use lib.ListN.{length, replicate, getD-replicate}
 use Rattle.network.specs.declared.Network.{Network}
-use Rattle.network_file.specs.Accepted.{WellFormed}
+use Rattle.network.specs.Accepted.{WellFormed}
 use Rattle.feeding.specs.Networks.{netOf, at, isIn}
 use Rattle.feeding.specs.Parts.{closedIn}
 use Rattle.feeding.proofs.Views.{formed-net}

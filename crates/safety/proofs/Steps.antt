@@ -10,8 +10,8 @@ use lib.ListN.{length}
 use borrow.Author.Tests.{lt-ltb, le-ltb}
 use Rattle.network.specs.declared.refusal.Rule.{Rule}
 use Rattle.network.specs.declared.refusal.Rule.the-variants.{NotATree, TwoSources, FaultWithSource, Overloaded}
-use Rattle.network_file.specs.declared.Answer.{Answer}
-use Rattle.network_file.specs.declared.Answer.the-variants.{Accepted}
+use Rattle.network.specs.declared.refusal.Answer.{Answer}
+use Rattle.network.specs.declared.refusal.Answer.the-variants.{Accepted}
 use Rattle.feeding.specs.Acceptance.{brokenAt, safety}
 use Rattle.feeding.specs.Below.{lowest, bits}
 use Rattle.feeding.specs.Loads.{lowestOver}

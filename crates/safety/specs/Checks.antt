@@ -5,8 +5,8 @@ use mathlib.Core.List.{List}
 use Prim.Native.Nat.{ℕ, _^_, _<_, _≤_}
 use lib.ListN.{length}
 use Rattle.network.specs.declared.refusal.Rule.{Rule}
-use Rattle.network_file.specs.declared.Answer.{Answer}
-use Rattle.network_file.specs.declared.Answer.the-variants.{Refused}
+use Rattle.network.specs.declared.refusal.Answer.{Answer}
+use Rattle.network.specs.declared.refusal.Answer.the-variants.{Refused}
 use Rattle.feeding.specs.Networks.{Formed, gridOf, at}
 use Rattle.loads.specs.Walks.{endsA, endsB, Lent}
 

@@ -8,7 +8,7 @@ use native.Mathlib.Numerals.{add-one}
 use native.Mathlib.Omega.{arith}
 use lib.ListN.{getD}
 use Rattle.network.specs.declared.Network.{Network}
-use Rattle.network_file.specs.Accepted.{WellFormed}
+use Rattle.network.specs.Accepted.{WellFormed}
 use Rattle.plan_file.specs.declared.plan.Plan.{Plan}
 use Rattle.plan_file.specs.Accepted.{WellFormedPlan}
 use Rattle.feeding.specs.Networks.{at}

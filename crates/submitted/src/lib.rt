@@ -7,7 +7,7 @@ use sets::except;
 ghost use mathlib.Core.Path.{_≡_};
 ghost use Prim.Native.Nat.{_≤_};
 ghost use lib.ListN.{length};
-ghost use Rattle.network_file.specs.Accepted.{WellFormed};
+ghost use Rattle.network.specs.Accepted.{WellFormed};
 ghost use Rattle.plan_file.specs.Accepted.{WellFormedPlan};
 ghost use Rattle.plan_writer.specs.Writing.{stateNumber};
 ghost use Rattle.feeding.specs.Below.{lowest};

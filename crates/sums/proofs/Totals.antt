@@ -9,7 +9,7 @@ use native.Mathlib.Omega.{arith}
 use lib.ListN.{replicate}
 use borrow.Author.Tests.{eq-eqb, ne-eqb}
 use Rattle.network.specs.declared.Network.{Network}
-use Rattle.network_file.specs.Accepted.{WellFormed}
+use Rattle.network.specs.Accepted.{WellFormed}
 use Rattle.feeding.specs.Below.{gate, sumTo, bits}
 use Rattle.feeding.specs.Networks.{netOf, gridOf, at, isIn}
 use Rattle.feeding.specs.Parts.{closedIn, label, joined?, sound?, live?}

@@ -5,7 +5,7 @@ use restoration::restorable_elements;
 use sets::except;
 ghost use mathlib.Core.Path.{_≡_};
 ghost use lib.ListN.{length};
-ghost use Rattle.network_file.specs.Accepted.{WellFormed};
+ghost use Rattle.network.specs.Accepted.{WellFormed};
 ghost use Rattle.feeding.specs.Below.{sumTo, gate};
 ghost use Rattle.feeding.specs.Networks.{netOf, at, isIn};
 ghost use Rattle.feeding.specs.Parts.{closedIn};

@@ -3,7 +3,7 @@ use network::Network;
 ghost use mathlib.Core.Path.{_≡_};
 ghost use Prim.Native.Nat.{_≤_};
 ghost use lib.ListN.{length};
-ghost use Rattle.network_file.specs.Accepted.{WellFormed};
+ghost use Rattle.network.specs.Accepted.{WellFormed};
 ghost use Rattle.feeding.specs.Networks.{at};
 ghost use Rattle.sets.specs.Sets.{members};
 ghost use Rattle.planning.specs.Sets.{priceOf};

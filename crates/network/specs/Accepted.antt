@@ -1,11 +1,16 @@
 -- Document 01, refusals 5 to 9: what they promise of a network that is not refused.
 -- Assumes nothing.
 use mathlib.Core.Path.{_≡_}
-use mathlib.Core.Bool.{true}
+use mathlib.Core.Bool.{Bool, true, not}
 use Prim.Native.Nat.{ℕ, _^_, _<_, _≤_}
+use lib.Dec.{eqb}
 use lib.ListN.{length, getD}
 use Rattle.network.specs.declared.Network.{Network}
-use Rattle.fields.specs.Fields.{suits}
+use Rattle.network.specs.Refusals.{pick}
+
+-- "cost (0 for fixed, 1 to 65,535 for a switch)"
+abbrev pub suits : ℕ → ℕ → Bool
+suits form cost = pick (eqb form 0) (eqb cost 0) (not (eqb cost 0))
 
 -- Rules 5 to 9: "E or K outside its range", "flags exceed 3", "an end of E or more, or two equal ends", "form exceeds 2", "cost
 -- doesn't suit its form"; a load and a capacity are below 2 ^ 32, a cost is of two bytes
