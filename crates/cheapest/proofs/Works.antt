@@ -1,24 +1,26 @@
 -- The scan of the sets found gives the first cheapest of all that work: only candidates can, and states as numbers are their last configurations.
 -- Assumes nothing.
-use mathlib.Core.Path.{_≡_, refl, sym, ap, ap₂, _∙_}
-use mathlib.Core.Bool.{Bool, true, false, not, _&&_, and-true}
+use mathlib.Core.Path.{_≡_, refl, sym, ap, ap₂, _∙_, subst}
+use mathlib.Core.Bool.{Bool, true, false, not, _&&_, and-true, or-self, false≢true}
 use mathlib.Core.List.{List}
 use Prim.Native.Nat.{ℕ, _<_, _≤_}
 use native.Mathlib.Omega.{arith}
-use lib.Dec.{ltb}
-use lib.ListN.{length, take, replicate, length-replicate, getD-replicate}
+use lib.Dec.{eqb, ltb}
+use lib.ListN.{length, take, replicate, length-replicate}
 use lib.Seq.{sets, sets-eq, take-at}
-use borrow.Author.Tests.{eq-eqb, eqb-true}
+use borrow.Author.Tests.{not-true}
 use Rattle.network.specs.declared.Network.{Network}
 use Rattle.network.specs.Accepted.{WellFormed}
 use Rattle.feeding.specs.Acceptance.{Starts}
 use Rattle.feeding.specs.Below.{bits}
 use Rattle.feeding.specs.Loads.{lowestOver}
 use Rattle.feeding.specs.Networks.{netOf, gridOf, at, isIn}
-use Rattle.feeding.specs.Parts.{Config, closedIn}
+use Rattle.feeding.specs.Parts.{Config, closedIn, sound?}
 use Rattle.feeding.specs.Plans.{flip, setCost}
 use Rattle.feeding.specs.Restoration.{operable?, operables}
+use Rattle.feeding.proofs.Below.{and-left, and-right}
 use Rattle.feeding.proofs.States.{over-same}
+use Rattle.feeding.proofs.Tests.{sound-flag}
 use Rattle.feeding.proofs.Views.{formed-net}
 use Rattle.loads.proofs.Same.{head-length, next-length, far-length}
 use Rattle.safety.proofs.Networks.{checked}
@@ -28,21 +30,28 @@ use Rattle.loads.specs.Walks.{walkGrid}
 use Rattle.sets.specs.Sets.{oneOf, butNot, members}
 use Rattle.safety.specs.Checks.{Checked}
 use Rattle.restoration.proofs.Reach.{bits-long}
-use Rattle.restoration.proofs.Sets.{set-at, closed-at}
+use Rattle.restoration.proofs.Sets.{set-at, closed-at, fits}
 use Rattle.planning.specs.declared.Best.{Best}
-use Rattle.planning.specs.Candidates.{candidate?}
+use Rattle.planning.specs.Candidates.{radial?, candidate?}
 use Rattle.planning.specs.Choosing.{works?}
 use Rattle.planning.specs.Sets.{setsFrom, none, scan, switchesOf, cheapestSet}
+use Rattle.planning.proofs.Radial.{radial-out}
 use Rattle.planning.proofs.Scans.{scan-passing, scan-ext, works-candidate}
 use Rattle.switches.specs.declared.Switches.{Switches}
 use Rattle.switches.specs.Switches.{SwitchReach, switchList}
-use Rattle.switches.proofs.States.{length-states, states-within, members-operables, link-reach, states-flipped, price-set}
+use Rattle.switches.proofs.States.{length-states, members-operables, operable-in, count-is, link-at, link-reach, states-flipped, price-set}
 use Rattle.candidates.specs.Candidates.{candidatesOf}
 use Rattle.candidates.proofs.Starting.{candidates-fit}
 use Rattle.packing.specs.Packing.{packedEnds, packedRating, headOf, nextOf, farOf, loadOf, capacityOf, packedGrid}
 use Rattle.capacity.proofs.Grids.{within-same}
 use Rattle.packing.proofs.Packed.{packed-head, packed-next, packed-far, packed-load, packed-capacity}
-use Rattle.cheapest.specs.Scanning.{Scans, statesIn, closableIn, priceIn, fitsIn}
+use Rattle.spurs.specs.declared.Lumped.{Lumped}
+use Rattle.spurs.specs.Layers.{closableIn, closableEnds, lumpedLayers}
+use Rattle.spurs.proofs.Spur.{loaded}
+use Rattle.spurs.proofs.Layers as Layers
+use Rattle.spurs.proofs.Turns.{layers-long}
+use Rattle.spurs.proofs.Layers.{Layered, set-closable}
+use Rattle.cheapest.specs.Scanning.{Scans, statesIn, priceIn, fitsIn}
 
 -- ---- lists
 
@@ -57,8 +66,8 @@ unfolding statesIn
 states-long base link closed count s = length-states (at link) (at closed) count s base
 
 -- what the calls return, before the scan
-pub record Gathered (n : Network) (operable : List ℕ) (sw : Switches) (found : List ℕ) (k : ℕ) (start base sound chain rating : List ℕ)
-    : Type 0 where
+pub record Gathered (n : Network) (operable : List ℕ) (sw : Switches) (found : List ℕ) (k : ℕ) (start base sound : List ℕ) (layers : ℕ)
+    (lumped : Lumped) (chain rating : List ℕ) : Type 0 where
   pub operable-is : operable ≡ bits 96 (n .links) (operable? (netOf n))
   pub switches-are : sw ≡ switchList n (operables (netOf n))
   pub reach : SwitchReach (sw .link) (sw .count)
@@ -67,8 +76,16 @@ pub record Gathered (n : Network) (operable : List ℕ) (sw : Switches) (found :
   pub start-is : start ≡ bits 96 (n .links) (oneOf (n .form) 0 2)
   pub base-is : base ≡ bits 96 (n .links) (butNot start operable)
   pub sound-is : sound ≡ bits 96 (n .elements) (oneOf (n .flags) 1 1)
-  pub chain-is : chain ≡ packedEnds (ownEnds (at (n .from)) (at (n .to)) (isIn (closableIn base (sw .link) (sw .count))) (n .links))
-  pub rating-is : rating ≡ packedRating (n .load) (n .capacity)
+  pub lumped-is : lumped ≡ lumpedLayers n (sw .link) (sw .count) sound (record { base = base; load = n .load }) layers
+  pub chain-is : chain ≡ packedEnds (closableEnds n (sw .link) (sw .count) (lumped .base))
+  pub rating-is : rating ≡ packedRating (lumped .load) (n .capacity)
+
+-- how long the lists are with the spurs lumped
+pub lumped-long : (n : Network) → WellFormed n → (link sound base : List ℕ) (count layers : ℕ) (lumped : Lumped) → length base ≡ 96
+    → lumped ≡ lumpedLayers n link count sound (record { base = base; load = n .load }) layers → (length (lumped .base) ≡ 96) × (length (lumped .load) ≡ 64)
+lumped-long n w link sound base count layers lumped long q =
+    let kept = layers-long n link count sound (record { base = base; load = n .load }) layers in
+    (ap (λ (t : Lumped). length (t .base)) q ∙ kept .0 ∙ long, ap (λ (t : Lumped). length (t .load)) q ∙ kept .1 ∙ w .load-long)
 
 -- what `switches_of` asks, and the switches that it lists
 module _ (n : Network) (w : WellFormed n) {operable : List ℕ} (operable-is : operable ≡ bits 96 (n .links) (operable? (netOf n))) where
@@ -84,14 +101,15 @@ module _ (n : Network) (w : WellFormed n) {operable : List ℕ} (operable-is : o
   unfolding switchList
   switches-reach starts e = rw (switches-are e) (link-reach n w (omega (arith, starts .few)))
 
-  pub gathered : {sw : Switches} {found : List ℕ} {k : ℕ} {start base sound chain rating : List ℕ}
+  pub gathered : {sw : Switches} {found : List ℕ} {k : ℕ} {start base sound : List ℕ} {layers : ℕ} {lumped : Lumped} {chain rating : List ℕ}
       → Starts (netOf n) → sw ≡ switchList n (members operable (n .links)) → (k ≡ length (candidatesOf (netOf n))) × (found ≡ sets (replicate 4096 0) 0 (candidatesOf (netOf n)))
       → start ≡ bits 96 (n .links) (oneOf (n .form) 0 2) → base ≡ bits 96 (n .links) (butNot start operable)
       → sound ≡ bits 96 (n .elements) (oneOf (n .flags) 1 1)
-      → chain ≡ packedEnds (ownEnds (at (n .from)) (at (n .to)) (isIn (closableIn base (sw .link) (sw .count))) (n .links))
-      → rating ≡ packedRating (n .load) (n .capacity)
-      → Gathered n operable sw found k start base sound chain rating
-  gathered starts s f c b m a o =
+      → lumped ≡ lumpedLayers n (sw .link) (sw .count) sound (record { base = base; load = n .load }) layers
+      → chain ≡ packedEnds (closableEnds n (sw .link) (sw .count) (lumped .base))
+      → rating ≡ packedRating (lumped .load) (n .capacity)
+      → Gathered n operable sw found k start base sound layers lumped chain rating
+  gathered starts s f c b m u a o =
       record {
         operable-is = operable-is;
         switches-are = switches-are s;
@@ -101,25 +119,41 @@ module _ (n : Network) (w : WellFormed n) {operable : List ℕ} (operable-is : o
         start-is = c;
         base-is = b;
         sound-is = m;
+        lumped-is = u;
         chain-is = a;
         rating-is = o;
       }
 
 module _ (n : Network) (w : WellFormed n) (starts : Starts (netOf n)) {operable : List ℕ} {sw : Switches} {found : List ℕ} {k : ℕ}
-    {start base sound chain rating : List ℕ} (g : Gathered n operable sw found k start base sound chain rating) where
+    {start base sound : List ℕ} {layers : ℕ} {lumped : Lumped} {chain rating : List ℕ}
+    (g : Gathered n operable sw found k start base sound layers lumped chain rating) where
   few : length (operables (netOf n)) ≤ 16
   few = omega (arith, starts .few)
 
   base-long : length base ≡ 96
   base-long = bits-long base (n .links) _ (g .base-is)
 
+  base-is : (l : ℕ) → l < n .links → isIn base l ≡ (netOf n .startClosed l && not (operable? (netOf n) l))
+  unfolding butNot
+  base-is l h =
+      set-at n w (n .links) _ base (w .links-fit) (g .base-is) l h
+      ∙ ap₂ (λ (x y : Bool). x && not y) (closed-at n w start (g .start-is) l h) (set-at n w (n .links) _ operable (w .links-fit) (g .operable-is) l h)
+
   -- the links that are not operable are in `base` as they are at the start
   base-at : (l : ℕ) → l < n .links → operable? (netOf n) l ≡ false → isIn base l ≡ netOf n .startClosed l
-  unfolding butNot
-  base-at l h off =
-      set-at n w (n .links) _ base (w .links-fit) (g .base-is) l h
-      ∙ ap₂ (λ (x y : Bool). x && not y) (closed-at n w start (g .start-is) l h) (set-at n w (n .links) _ operable (w .links-fit) (g .operable-is) l h ∙ off)
-      ∙ and-true (netOf n .startClosed l)
+  base-at l h off = base-is l h ∙ ap (λ (x : Bool). netOf n .startClosed l && not x) off ∙ and-true (netOf n .startClosed l)
+
+  -- and no operable one is
+  base-apart : (l : ℕ) → l < n .links → isIn base l ≡ true → (i : ℕ) → i < sw .count → l ≡ at (sw .link) i → ⊥
+  base-apart l h on = rw (g .switches-are) apart
+    where
+      off : operable? (netOf n) l ≡ false
+      off = not-true _ (and-right (netOf n .startClosed l) _ (sym (base-is l h) ∙ on))
+
+      apart : (i : ℕ) → i < switchList n (operables (netOf n)) .count → l ≡ at (switchList n (operables (netOf n)) .link) i → ⊥
+      apart i b q =
+          let in-list : i < length (operables (netOf n)) = omega (arith, b, count-is n w) in
+          false≢true (sym off ∙ ap (operable? (netOf n)) (q ∙ link-at n w few i in-list) ∙ operable-in n w i in-list .1)
 
   -- the states that a set leaves are its last configuration
   states-at : (s l : ℕ) → l < n .links
@@ -134,47 +168,95 @@ module _ (n : Network) (w : WellFormed n) (starts : Starts (netOf n)) {operable 
   front : take k found ≡ candidatesOf (netOf n)
   front = found-front found (candidatesOf (netOf n)) k (g .found-is) (g .count-is) (candidates-fit (netOf n) starts)
 
-  -- the states that a set leaves
+  sound-at : (e : ℕ) → e < n .elements → isIn sound e ≡ sound? (netOf n .grid) e
+  unfolding oneOf sound? netOf gridOf
+  sound-at e h = set-at n w (n .elements) _ sound (fits n w) (g .sound-is) e h ∙ or-self (eqb (at (n .flags) e) 1) ∙ sound-flag (at (n .flags) e)
+
+  layered : Layered n w (sw .link) (sw .closed) (sw .count) (g .reach) sound base sound-at base-long base-apart lumped
+  layered = subst (Layered n w (sw .link) (sw .closed) (sw .count) (g .reach) sound base sound-at base-long base-apart) (sym (g .lumped-is))
+      (Layers.layers n w (sw .link) (sw .closed) (sw .count) (g .reach) sound base sound-at base-long base-apart layers)
+
+  -- the states that a set leaves, with the spurs left out
   abbrev after : ℕ → List ℕ
-  after s = statesIn base (sw .link) (sw .closed) (sw .count) s
+  after s = statesIn (lumped .base) (sw .link) (sw .closed) (sw .count) s
 
   abbrev last : ℕ → Config
   last s = flip (netOf n .startClosed) (switchesOf (netOf n) s)
 
   -- the links that it leaves closed can be closed, so they are chained
   abbrev closable : List ℕ
-  closable = closableIn base (sw .link) (sw .count)
+  closable = closableIn (lumped .base) (sw .link) (sw .count)
 
   after-closable : (s l : ℕ) → l < n .links → closedIn (after s) l ≡ true → isIn closable l ≡ true
-  unfolding closableIn statesIn
-  after-closable s l k on = eq-eqb _ 1
-      (states-within (at (sw .link)) (at (sw .closed)) (at (replicate 16 1)) (sw .count) (λ j h. getD-replicate {A = ℕ} 16 j 1 0 (omega (arith, g .reach .fit)))
-      s l base base (λ j h. omega (arith, base-long, g .reach .link-in j h)) (λ h. h) (eqb-true _ 1 on))
+  unfolding statesIn
+  after-closable s l h on = set-closable (lumped .base) (sw .link) (sw .closed) (sw .count) s l (g .reach) (layered .base-long) on
 
   abbrev own : OwnEnds
   own = ownEnds (at (n .from)) (at (n .to)) (isIn closable) (n .links)
 
-  checked-after : (s : ℕ) → Checked (n .load) (n .capacity) (n .flags) (n .from) (n .to) (own .head) (own .next) (own .far) (after s) (n .elements) (n .links)
-  checked-after s = checked n w (isIn closable) own (after s) refl (after-closable s) (states-long base (sw .link) (sw .closed) (sw .count) s ∙ base-long)
+  -- the network with the spurs' loads lumped
+  abbrev lighter : Network
+  lighter = record {
+    load = lumped .load;
+    capacity = n .capacity;
+    flags = n .flags;
+    from = n .from;
+    to = n .to;
+    form = n .form;
+    cost = n .cost;
+    elements = n .elements;
+    links = n .links;
+  }
+
+  lighter-formed : WellFormed lighter
+  lighter-formed = record {
+    some = w .some;
+    elements-fit = w .elements-fit;
+    links-fit = w .links-fit;
+    load-long = layered .load-long;
+    capacity-long = w .capacity-long;
+    flags-long = w .flags-long;
+    from-long = w .from-long;
+    to-long = w .to-long;
+    form-long = w .form-long;
+    cost-long = w .cost-long;
+    load-in = layered .load-in;
+    capacity-in = w .capacity-in;
+    flags-in = w .flags-in;
+    from-in = w .from-in;
+    to-in = w .to-in;
+    differ = w .differ;
+    form-in = w .form-in;
+    cost-in = w .cost-in;
+    suited = w .suited;
+  }
+
+  checked-after : (s : ℕ) → Checked (lumped .load) (n .capacity) (n .flags) (n .from) (n .to) (own .head) (own .next) (own .far) (after s) (n .elements) (n .links)
+  checked-after s = checked lighter lighter-formed (isIn closable) own (after s) refl (after-closable s)
+      (states-long (lumped .base) (sw .link) (sw .closed) (sw .count) s ∙ layered .base-long)
 
   -- the parts of the packed arrays
+  chain-own : chain ≡ packedEnds own
+  unfolding closableEnds
+  chain-own = g .chain-is
+
   head-is : headOf chain ≡ own .head
-  head-is = rw (g .chain-is) (packed-head own (head-length (at (n .from)) (at (n .to)) (isIn closable) (n .links) (w .links-fit)))
+  head-is = rw chain-own (packed-head own (head-length (at (n .from)) (at (n .to)) (isIn closable) (n .links) (w .links-fit)))
 
   next-is : nextOf chain ≡ own .next
-  next-is = rw (g .chain-is) (packed-next own (next-length (at (n .from)) (at (n .to)) (isIn closable) (n .links) (w .links-fit)))
+  next-is = rw chain-own (packed-next own (next-length (at (n .from)) (at (n .to)) (isIn closable) (n .links) (w .links-fit)))
 
   far-is : farOf chain ≡ own .far
-  far-is = rw (g .chain-is) (packed-far own (far-length (at (n .from)) (at (n .to)) (isIn closable) (n .links) (w .links-fit)))
+  far-is = rw chain-own (packed-far own (far-length (at (n .from)) (at (n .to)) (isIn closable) (n .links) (w .links-fit)))
 
-  load-is : loadOf rating ≡ n .load
-  load-is = rw (g .rating-is) (packed-load (n .load) (n .capacity) (w .load-long))
+  load-is : loadOf rating ≡ lumped .load
+  load-is = rw (g .rating-is) (packed-load (lumped .load) (n .capacity) (layered .load-long))
 
   capacity-is : capacityOf rating ≡ n .capacity
-  capacity-is = rw (g .rating-is) (packed-capacity (n .load) (n .capacity) (w .capacity-long))
+  capacity-is = rw (g .rating-is) (packed-capacity (lumped .load) (n .capacity) (w .capacity-long))
 
   -- the theorem: what `cheapest_of` asks
-  pub scanning : Scans base (sw .link) (sw .closed) chain rating k (sw .count) (n .elements) (n .links)
+  pub scanning : Scans (lumped .base) (sw .link) (sw .closed) chain rating k (sw .count) (n .elements) (n .links)
   scanning = record {
     some = omega (arith, g .count-is, candidates-fit (netOf n) starts);
     fit = w .elements-fit;
@@ -182,27 +264,35 @@ module _ (n : Network) (w : WellFormed n) (starts : Starts (netOf n)) {operable 
     lent = λ s. rw (head-is, next-is, far-is, load-is, capacity-is) (checked-after s .lent);
   }
 
-  abbrev fits : ℕ → Bool
-  fits = fitsIn (packedGrid (n .elements) (n .links) chain rating) sound base (sw .link) (sw .closed) (sw .count)
+  abbrev fitting : ℕ → Bool
+  fitting = fitsIn (packedGrid (n .elements) (n .links) chain rating) sound (lumped .base) (sw .link) (sw .closed) (sw .count)
 
-  -- the loads in the states that a set leaves are those of its last configuration
-  fits-last : (s : ℕ) → fits s ≡ not (ltb (lowestOver (netOf n .grid) (last s)) (netOf n .grid .E))
-  unfolding fitsIn walkGrid netOf gridOf
-  fits-last s =
+  -- where a set leaves no loop, the loads in its states are those of its last configuration
+  fits-last : (s : ℕ) → candidate? (netOf n) (switchesOf (netOf n) s) ≡ true
+      → fitting s ≡ not (ltb (lowestOver (netOf n .grid) (last s)) (netOf n .grid .E))
+  unfolding fitsIn walkGrid netOf gridOf candidate? loaded statesIn
+  fits-last s h =
+      let radial = radial-out (netOf n .grid) (formed-net n w) (last s) (and-left (radial? (netOf n .grid) (last s)) _ h) in
       rw (far-is, load-is, capacity-is) (within-same (checked-after s) (g .sound-is))
-      ∙ ap (λ (x : ℕ). not (ltb x (n .elements))) (over-same (netOf n .grid) (formed-net n w) (closedIn (after s)) (last s) (states-at s))
+      ∙ ap (λ (x : ℕ). not (ltb x (n .elements))) (layered .same s (last s) (radial .bridges) (λ l b q. sym (states-at s l b) ∙ q)
+      ∙ over-same (netOf n .grid) (formed-net n w) _ (last s) (states-at s))
 
-  fits-works : (s : ℕ) → (candidate? (netOf n) (switchesOf (netOf n) s) && fits s) ≡ works? (netOf n) (switchesOf (netOf n) s)
-  fits-works s =
-      ap (λ (t : Bool). candidate? (netOf n) (switchesOf (netOf n) s) && t) (fits-last s) ∙ sym (works-candidate (netOf n) (switchesOf (netOf n) s))
+  fits-works : (s : ℕ) → (candidate? (netOf n) (switchesOf (netOf n) s) && fitting s) ≡ works? (netOf n) (switchesOf (netOf n) s)
+  fits-works s = go (candidate? (netOf n) (switchesOf (netOf n) s)) refl ∙ sym (works-candidate (netOf n) (switchesOf (netOf n) s))
+    where
+      go : (t : Bool) → candidate? (netOf n) (switchesOf (netOf n) s) ≡ t
+          → (candidate? (netOf n) (switchesOf (netOf n) s) && fitting s)
+          ≡ (candidate? (netOf n) (switchesOf (netOf n) s) && not (ltb (lowestOver (netOf n .grid) (last s)) (netOf n .grid .E)))
+      go true t = ap (λ (b : Bool). candidate? (netOf n) (switchesOf (netOf n) s) && b) (fits-last s t)
+      go false t = rw t
 
   -- the theorem: the scan of the sets found gives the first cheapest of all sets that work
-  pub scan-cheapest : scan (priceIn (sw .price) (sw .count)) fits (take k found) none ≡ cheapestSet (netOf n)
+  pub scan-cheapest : scan (priceIn (sw .price) (sw .count)) fitting (take k found) none ≡ cheapestSet (netOf n)
   unfolding candidatesOf cheapestSet
   scan-cheapest =
-      ap (λ (xs : List ℕ). scan (priceIn (sw .price) (sw .count)) fits xs none) front
-      ∙ scan-passing (priceIn (sw .price) (sw .count)) fits (λ s. candidate? (netOf n) (switchesOf (netOf n) s)) (setsFrom (length (operables (netOf n))) 0) none
+      ap (λ (xs : List ℕ). scan (priceIn (sw .price) (sw .count)) fitting xs none) front
+      ∙ scan-passing (priceIn (sw .price) (sw .count)) fitting (λ s. candidate? (netOf n) (switchesOf (netOf n) s)) (setsFrom (length (operables (netOf n))) 0) none
       ∙ scan-ext (priceIn (sw .price) (sw .count)) _ _ _ price-at fits-works (setsFrom (length (operables (netOf n))) 0) none
 
-  pub cheapest-is : {r : Best} → r ≡ scan (priceIn (sw .price) (sw .count)) fits (take k found) none → r ≡ cheapestSet (netOf n)
+  pub cheapest-is : {r : Best} → r ≡ scan (priceIn (sw .price) (sw .count)) fitting (take k found) none → r ≡ cheapestSet (netOf n)
   cheapest-is q = q ∙ scan-cheapest

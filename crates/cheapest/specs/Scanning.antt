@@ -4,7 +4,6 @@ use mathlib.Core.Bool.{Bool, not}
 use mathlib.Core.List.{List}
 use Prim.Native.Nat.{ℕ, _≤_}
 use lib.Dec.{ltb}
-use lib.ListN.{replicate}
 use Rattle.feeding.specs.Networks.{Grid, at}
 use Rattle.feeding.specs.Parts.{closedIn}
 use Rattle.loads.specs.Walks.{overPlace}
@@ -15,10 +14,6 @@ use Rattle.switches.specs.Switches.{SwitchReach, withSet}
 -- the states that the set s leaves
 unfoldable pub statesIn : (base link closed : List ℕ) (count s : ℕ) → List ℕ
 statesIn base link closed count s = withSet (at link) (at closed) count s base
-
--- the links that a set can leave closed: those in `base`, and the switches
-unfoldable pub closableIn : (base link : List ℕ) (count : ℕ) → List ℕ
-closableIn base link count = statesIn base link (replicate 16 1) count 0
 
 unfoldable pub priceIn : (price : List ℕ) (count s : ℕ) → ℕ
 priceIn price count s = priceOf (at price) count s

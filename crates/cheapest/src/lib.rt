@@ -1,7 +1,6 @@
 // The cheapest set of operable switches that restores a network; the first in the set order where several cost the same.
 use candidates::list_candidates;
 use capacity::all_within;
-use ends::own_ends;
 use network::Network;
 use operable::operable_switches;
 use packing::packed_ends;
@@ -9,19 +8,20 @@ use packing::packed_rating;
 use planning::Best;
 use sets::except;
 use sets::members_of;
+use spurs::closable_ends;
+use spurs::layers_for;
+use spurs::lump_layers;
 use switches::price_of;
 use switches::switches_of;
 use switches::with_set;
 ghost use mathlib.Core.Path.{_≡_};
-ghost use lib.ListN.{length, take};
+ghost use lib.ListN.{take};
 ghost use Rattle.network.specs.Accepted.{WellFormed};
-ghost use Rattle.feeding.specs.Networks.{netOf, at, isIn};
+ghost use Rattle.feeding.specs.Networks.{netOf};
 ghost use Rattle.feeding.specs.Acceptance.{Starts};
 ghost use Rattle.planning.specs.Sets.{none, scan, cheapestSet};
-ghost use Rattle.ends.specs.Ends.{ownEnds};
-ghost use Rattle.switches.specs.Switches.{SwitchReach};
-ghost use Rattle.packing.specs.Packing.{packedEnds, packedGrid};
-ghost use Rattle.cheapest.specs.Scanning.{Scans, closableIn, priceIn, fitsIn};
+ghost use Rattle.packing.specs.Packing.{packedGrid};
+ghost use Rattle.cheapest.specs.Scanning.{Scans, priceIn, fitsIn};
 
 // The first cheapest of the first n sets found, among those whose loads stay within capacity.
 fn cheapest_of<'a>(
@@ -61,20 +61,6 @@ fn cheapest_of<'a>(
     best
 }
 
-// The chained ends of the links that a set can leave closed: those in `base`, and the switches.
-fn closable_ends<'a>(net: Network, base: [u8; 96], link: &'a [u8; 16], count: usize) -> [u8; 448]
-    requires { ⌜ WellFormed net ⌝ }
-    requires { ⌜ SwitchReach (now link) count × (length base ≡ 96) ⌝ }
-    ensures { λ r. ⌜ r ≡ packedEnds (ownEnds (at (net .from)) (at (net .to)) (isIn (closableIn base (now (link .entry)) count)) (net .links)) ⌝ }
-{
-    let from = net.from;
-    let to = net.to;
-    let all: [u8; 16] = [1; 16];
-    let closable = with_set(base, link, &all, count, 0);
-    let own = own_ends(&from, &to, &closable, net.links);
-    packed_ends(own)
-}
-
 // The set that document 01 picks, or none.
 pub fn cheapest_set(net: Network) -> Best
     requires { ⌜ WellFormed net ⌝ }
@@ -87,7 +73,6 @@ pub fn cheapest_set(net: Network) -> Best
     let n = list_candidates(net, &operable, switches, &mut found);
     let flags = net.flags;
     let form = net.form;
-    let load = net.load;
     let capacity = net.capacity;
     let start = members_of(&form, 0, 2, net.links);
     let base = except(&start, &operable, net.links);
@@ -95,12 +80,17 @@ pub fn cheapest_set(net: Network) -> Best
     let link = switches.link;
     let closed = switches.closed;
     let price = switches.price;
-    let chain = closable_ends(net, base, &link, switches.count);
+    let layers = layers_for(n);
+    let lumped = lump_layers(net, base, &link, switches.count, &sound, layers);
+    let load = lumped.load;
+    let left = lumped.base;
+    let own = closable_ends(net, left, &link, switches.count);
+    let chain = packed_ends(own);
     let rating = packed_rating(&load, &capacity);
     cheapest_of(
         &found,
         n,
-        base,
+        left,
         &link,
         &closed,
         &price,

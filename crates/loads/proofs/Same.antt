@@ -68,15 +68,15 @@ module _ (a b : ℕ → ℕ) (has : ℕ → Bool) (K : ℕ) (fit : K ≤ 96) whe
         (sym (ownEnd-none a b has K e i m low high) ∙ own-yes a b has K e m k r (chained (m / 2) (omega arith) on)));
   }
 
-  far-at : (j : ℕ) → j < 2 * K → at (ownEnds a b has K .far) j ≡ endAt b a j
+  pub far-at : (j : ℕ) → j < 2 * K → at (ownEnds a b has K .far) j ≡ endAt b a j
   unfolding ownEnds farAt
   far-at j k = at-tabulate 192 (λ j. gate (ltb j (2 * K)) (farAt a b j)) j (omega arith) ∙ rw (lt-ltb j (2 * K) k)
 
-  head-at : (e : ℕ) → e < 64 → at (ownEnds a b has K .head) e ≡ ownEnd a b has K e 0
+  pub head-at : (e : ℕ) → e < 64 → at (ownEnds a b has K .head) e ≡ ownEnd a b has K e 0
   unfolding ownEnds
   head-at e k = at-tabulate 64 (λ e. ownEnd a b has K e 0) e k
 
-  next-at : (j : ℕ) → j < 2 * K → at (ownEnds a b has K .next) j ≡ ownEnd a b has K (endAt a b j) (suc j)
+  pub next-at : (j : ℕ) → j < 2 * K → at (ownEnds a b has K .next) j ≡ ownEnd a b has K (endAt a b j) (suc j)
   unfolding ownEnds
   next-at j k = at-tabulate 192 (λ j. elim (ltb j (2 * K)) [ true ↦ ownEnd a b has K (endAt a b j) (suc j) | false ↦ 192 ]) j (omega arith)
       ∙ rw (lt-ltb j (2 * K) k)

@@ -73,6 +73,24 @@ states-other link closed (suc n) s states l h =
     states-other link closed n (s / 2) (set states (link n) (turned (closed n) (s % 2))) l (λ j k. h j (omega arith))
     ∙ getD-set-other states (link n) l (turned (closed n) (s % 2)) 0 (h n (omega arith))
 
+-- what a set leaves of a link depends on nothing but that link's state before
+pub states-same : (link closed : ℕ → ℕ) (n s l : ℕ) (xs ys : List ℕ) → ((j : ℕ) → j < n → link j < length xs) → ((j : ℕ) → j < n → link j < length ys)
+    → at xs l ≡ at ys l → at (withSet link closed n s xs) l ≡ at (withSet link closed n s ys) l
+unfolding withSet
+states-same link closed zero s l xs ys inside inside′ q = q
+states-same link closed (suc n) s l xs ys inside inside′ q =
+    states-same link closed n (s / 2) l (set xs (link n) v) (set ys (link n) v)
+    (λ j k. omega (arith, inside j (omega arith), length-set xs (link n) v)) (λ j k. omega (arith, inside′ j (omega arith), length-set ys (link n) v))
+    (go (eqb l (link n)) refl)
+  where
+    v : ℕ
+    v = turned (closed n) (s % 2)
+
+    go : (t : Bool) → eqb l (link n) ≡ t → at (set xs (link n) v) l ≡ at (set ys (link n) v) l
+    go true t = ap (at (set xs (link n) v)) (eqb-true l (link n) t) ∙ getD-set-same xs (link n) v 0 (inside n (omega arith))
+        ∙ sym (ap (at (set ys (link n) v)) (eqb-true l (link n) t) ∙ getD-set-same ys (link n) v 0 (inside′ n (omega arith)))
+    go false t = getD-set-other xs (link n) l v 0 (eqb-false l (link n) t) ∙ q ∙ sym (getD-set-other ys (link n) l v 0 (eqb-false l (link n) t))
+
 -- what any set leaves closed is closed where every switch is
 pub states-within : (link closed ones : ℕ → ℕ) (n : ℕ) → ((j : ℕ) → j < n → ones j ≡ 1) → (s l : ℕ) (xs ys : List ℕ)
     → ((j : ℕ) → j < n → link j < length ys) → (at xs l ≡ 1 → at ys l ≡ 1)
@@ -170,7 +188,7 @@ module _ (n : Network) (well : WellFormed n) where
   abbrev sw : Switches
   sw = switchList n (operables (netOf n))
 
-  operable-in : (i : ℕ) → i < length ops → (at ops i < n .links) × (operable? (netOf n) (at ops i) ≡ true)
+  pub operable-in : (i : ℕ) → i < length ops → (at ops i < n .links) × (operable? (netOf n) (at ops i) ≡ true)
   unfolding operables netOf gridOf
   operable-in i k = those-out (n .links) (operable? (netOf n)) (at ops i) (at-member ops i k)
 

@@ -9,10 +9,9 @@ use Rattle.feeding.specs.Networks.{at, isIn}
 use Rattle.ends.specs.Ends.{ownEnds}
 use Rattle.safety.proofs.Networks.{two-ends}
 use Rattle.switches.proofs.States.{length-states}
-use Rattle.packing.specs.Packing.{packedEnds}
-use Rattle.cheapest.specs.Scanning.{statesIn, closableIn}
-use Rattle.cheapest.proofs.closable_ends.Statement.{statement}
-use Rattle.cheapest.proofs.closable_ends.Tie as tie
+use Rattle.spurs.specs.Layers.{closableIn, closableEnds}
+use Rattle.spurs.proofs.closable_ends.Statement.{statement}
+use Rattle.spurs.proofs.closable_ends.Tie as tie
 
 with-set-requires : tie.Need-with-set-requires
 with-set-requires c κs = c .before .before .before .pre .1 .0
@@ -32,17 +31,13 @@ own-ends-requires c κs =
     let pre· = c .before .before .before .before .before .before .before .pre in
     two-ends (args· .net) (pre· .0) _ (ap length (c .before .before .before .with-set .ensures) ∙ length-states _ _ _ _ _ ∙ pre· .1 .1)
 
-packed-ends-requires : tie.Need-packed-ends-requires
-packed-ends-requires c κs = search needs
-
 returns : tie.Need-returns
-unfolding closableIn statesIn
+unfolding closableIn closableEnds
 returns c =
-    let args· = c .before .before .before .before .before .before .before .before .before .args in
-    let with-set· = c .before .before .before .before .before .with-set in
-    c .packed-ends .ensures
-    ∙ ap packedEnds (c .before .own-ends .ensures
-    ∙ ap (λ (xs : List ℕ). ownEnds (at (args· .net .from)) (at (args· .net .to)) (isIn xs) (args· .net .links)) (with-set· .ensures))
+    let args· = c .before .before .before .before .before .before .before .before .args in
+    let with-set· = c .before .before .before .before .with-set in
+    c .own-ends .ensures
+    ∙ ap (λ (xs : List ℕ). ownEnds (at (args· .net .from)) (at (args· .net .to)) (isIn xs) (args· .net .links)) (with-set· .ensures)
 
 pub closable-ends-spec : {M : Type 1} → statement M
 closable-ends-spec =
@@ -53,5 +48,4 @@ closable-ends-spec =
     slice-aggregate-own-ends-2
     slice-aggregate-own-ends-3
     own-ends-requires
-    packed-ends-requires
     returns)
