@@ -180,8 +180,9 @@ fn measure_planner(r: &mut Random) -> (Rounds, Rounds) {
     let random = measure("random networks", "plan", PLANNERS, &random_networks(r));
     let element = measure("hardest, no plan, an element too small", "plan", PLANNERS, &hardest(r, Kind::SmallElement));
     let sources = measure("hardest, no plan, sources too small", "plan", PLANNERS, &hardest(r, Kind::SmallSources));
+    let chains = measure("hardest, no plan, sources of chains too small", "plan", PLANNERS, &hardest(r, Kind::SmallSourcesOfChains));
     measure("hardest, with a plan", "plan", PLANNERS, &hardest(r, Kind::Planned));
-    (random, element.and(&sources))
+    (random, element.and(&sources).and(&chains))
 }
 
 fn measure_judge(r: &mut Random) -> Rounds {

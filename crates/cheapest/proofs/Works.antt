@@ -46,11 +46,11 @@ use Rattle.packing.specs.Packing.{packedEnds, packedRating, headOf, nextOf, far
 use Rattle.capacity.proofs.Grids.{within-same}
 use Rattle.packing.proofs.Packed.{packed-head, packed-next, packed-far, packed-load, packed-capacity}
 use Rattle.spurs.specs.declared.Lumped.{Lumped}
-use Rattle.spurs.specs.Layers.{closableIn, closableEnds, lumpedLayers}
+use Rattle.lumping.specs.Layers.{closableIn, closableEnds, lumpedLayers}
 use Rattle.spurs.proofs.Spur.{loaded}
-use Rattle.spurs.proofs.Layers as Layers
-use Rattle.spurs.proofs.Turns.{layers-long}
-use Rattle.spurs.proofs.Layers.{Layered, set-closable}
+use Rattle.lumping.proofs.Layers as Layers
+use Rattle.lumping.proofs.Turns.{layers-long}
+use Rattle.lumping.proofs.Layers.{Layered, set-closable}
 use Rattle.cheapest.specs.Scanning.{Scans, statesIn, priceIn, fitsIn}
 
 -- ---- lists

@@ -1,6 +1,9 @@
 // The cheapest set of operable switches that restores a network; the first in the set order where several cost the same.
 use candidates::list_candidates;
 use capacity::all_within;
+use lumping::closable_ends;
+use lumping::layers_for;
+use lumping::lump_layers;
 use network::Network;
 use operable::operable_switches;
 use packing::packed_ends;
@@ -8,9 +11,6 @@ use packing::packed_rating;
 use planning::Best;
 use sets::except;
 use sets::members_of;
-use spurs::closable_ends;
-use spurs::layers_for;
-use spurs::lump_layers;
 use switches::price_of;
 use switches::switches_of;
 use switches::with_set;

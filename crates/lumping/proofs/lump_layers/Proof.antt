@@ -5,12 +5,12 @@ use mathlib.Core.Path.{_≡_, ap, _∙_}
 use native.Mathlib.Omega.{arith}
 use lib.ListN.{length}
 use Rattle.ends.specs.declared.OwnEnds.{OwnEnds}
 use Rattle.spurs.specs.declared.Lumped.{Lumped}
 use Rattle.spurs.specs.Spurs.{lumpedTo}
-use Rattle.spurs.specs.Layers.{closableEnds, lumpedLayers}
-use Rattle.spurs.proofs.Turns.{no-layer, one-layer, layers-long, far-in}
-use Rattle.spurs.proofs.lump_layers.Statement.{statement}
-use Rattle.spurs.proofs.lump_layers.Tie as tie
+use Rattle.lumping.specs.Layers.{closableEnds, lumpedLayers}
+use Rattle.lumping.proofs.Turns.{no-layer, one-layer, layers-long, far-in}
+use Rattle.lumping.proofs.lump_layers.Statement.{statement}
+use Rattle.lumping.proofs.lump_layers.Tie as tie
 
 abbrev Inv-loop : tie.InvT-loop
 Inv-loop net link count sound layers capacity lumped₀ i₀ lumped i = (i ≤ layers) × (lumped ≡ lumpedLayers net link count sound lumped₀ i)

@@ -19,11 +19,11 @@ use Rattle.feeding.proofs.Forest.{Bridges}
 use Rattle.feeding.proofs.Views.{formed-net}
 use Rattle.switches.specs.Switches.{SwitchReach, withSet}
 use Rattle.switches.proofs.States.{states-same, states-other, states-within}
 use Rattle.spurs.specs.declared.Lumped.{Lumped}
 use Rattle.spurs.specs.Spurs.{lumpedTo}
-use Rattle.spurs.specs.Layers.{closableIn, closableEnds, lumpedLayers}
+use Rattle.lumping.specs.Layers.{closableIn, closableEnds, lumpedLayers}
 use Rattle.spurs.proofs.Layer.{Laid, Kept, Same, under, layer-same}
 use Rattle.spurs.proofs.Spur.{loaded}
 
 -- what a set leaves closed can be closed
 pub set-closable : (base link closed : List ℕ) (count s l : ℕ) → SwitchReach link count → length base ≡ 96

@@ -1,9 +1,9 @@
 -- `layers_for` meets its contract by its one test.
 -- Assumes nothing.
 use native.Mathlib.Omega.{arith}
-use Rattle.spurs.proofs.Turns.{few-layers, some-layers}
-use Rattle.spurs.proofs.layers_for.Statement.{statement}
-use Rattle.spurs.proofs.layers_for.Tie as tie
+use Rattle.lumping.proofs.Turns.{few-layers, some-layers}
+use Rattle.lumping.proofs.layers_for.Statement.{statement}
+use Rattle.lumping.proofs.layers_for.Tie as tie
 
 returns : tie.Need-returns
 returns c = few-layers (c .before .args .n) (omega arith)

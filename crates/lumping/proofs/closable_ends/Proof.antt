@@ -9,9 +9,9 @@ use Rattle.feeding.specs.Networks.{at, isIn}
 use Rattle.ends.specs.Ends.{ownEnds}
 use Rattle.safety.proofs.Networks.{two-ends}
 use Rattle.switches.proofs.States.{length-states}
-use Rattle.spurs.specs.Layers.{closableIn, closableEnds}
-use Rattle.spurs.proofs.closable_ends.Statement.{statement}
-use Rattle.spurs.proofs.closable_ends.Tie as tie
+use Rattle.lumping.specs.Layers.{closableIn, closableEnds}
+use Rattle.lumping.proofs.closable_ends.Statement.{statement}
+use Rattle.lumping.proofs.closable_ends.Tie as tie
 
 with-set-requires : tie.Need-with-set-requires
 with-set-requires c κs = c .before .before .before .pre .1 .0
