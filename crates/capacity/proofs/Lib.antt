@@ -1,3 +1,4 @@
 pub mod Grids
 pub mod Sources
 pub mod Turns
+pub mod Waiting

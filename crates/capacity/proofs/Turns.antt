@@ -15,11 +15,11 @@ use Rattle.feeding.specs.Loads.{leads, elementLoad, linkLoad, above, elementOve
 use Rattle.feeding.proofs.Below.{and-both, orElse}
 use Rattle.feeding.proofs.Lows.{leastTo-le}
 use Rattle.ends.proofs.Chains.{end-even, end-odd}
-use Rattle.loads.specs.Walks.{endsA, endsB, nearAt, walkGrid, Lent, lowerOver, elementCarried, linkCarried}
+use Rattle.loads.specs.Walks.{endsA, endsB, nearAt, walkGrid, Lent, lowerOver, elementCarried}
 use Rattle.loads.specs.declared.Carried.{Carried}
 use Rattle.loads.proofs.Rounds.{Walked, lower-within, load-none, load-more, over-none, over-more}
-use Rattle.loads.proofs.Lending.{element-load-in, element-over-in, link-load-in, link-over-in, far-end}
-use Rattle.loads.proofs.Lending.{turn-none, turn-done, turn-below, turn-near, turn-on, turn-room}
+use Rattle.loads.proofs.Lending.{element-load-in, element-over-in, far-end}
+use Rattle.loads.proofs.Lending.{turn-none, turn-done, turn-below, turn-near, turn-room}
 use Rattle.capacity.specs.Within.{overloaded, withinOr, withinAt, linkWithin}
 
 -- ---- by whether something on the way is above its capacity, and by the room
@@ -206,25 +206,12 @@ module _ {head next far closed load capacity : List ℕ} {E K : ℕ} (lent : Len
         by-room more = too-much (walkGrid E K far load capacity) (closedIn closed) depth e via room _ inside
             (turn-room head next far closed load capacity E K lent d e via sum E j w k depth z h n) (omega arith)
 
-    fits-link : (r ≡ overloaded → ⊥)
+    -- the link's walk has fitted
+    pub fits-link : (r ≡ overloaded → ⊥)
         → Fits (ltb (linkOver (walkGrid E K far load capacity) (closedIn closed) d (j / 2) (nearAt far j)) E)
         (linkLoad (walkGrid E K far load capacity) (closedIn closed) d (j / 2) (nearAt far j)) left r
     unfolding walkGrid linkWithin
     fits-link f = rw q (fits-so _ _ left (λ x. f (q ∙ x)))
-
-    -- the link's walk has fitted, and its load is added
-    pub went-on : (r ≡ overloaded → ⊥) → (sum′ : ℕ) → sum′ ≡ sum + r
-        → Walked (walkGrid E K far load capacity) (closedIn closed) d e via sum′ E (at next j)
-    went-on f sum′ s =
-        let carried : Carried = linkCarried (walkGrid E K far load capacity) (closedIn closed) d (j / 2) (nearAt far j) in
-        let load-in = link-load-in (walkGrid E K far load capacity) (closedIn closed) d (j / 2) (nearAt far j) in
-        let over-in = link-over-in (walkGrid E K far load capacity) (closedIn closed) d (j / 2) (nearAt far j) in
-        turn-on head next far closed load capacity E K lent d e via sum E j w k carried sum′ E h n refl
-        (omega (arith, s, fits-link f .same, load-in)) (omega (arith, ltb-false _ E (fits-link f .under), over-in))
-
-    -- it is no more than there was room for
-    pub went-room : (r ≡ overloaded → ⊥) → r ≤ left
-    went-room f = omega (arith, fits-link f .same, fits-link f .roomy)
 
 -- ---- the link's turns
 

@@ -2,8 +2,8 @@
 -- and there is room for it.
 -- Assumes nothing.
 use mathlib.Core.Bool.{Bool, true, false, _||_}
-use Prim.Native.Nat.{ℕ}
-use lib.Dec.{ltb}
+use Prim.Native.Nat.{ℕ, _+_, _/_}
+use lib.Dec.{eqb, ltb}
 use Rattle.feeding.specs.Networks.{Grid}
 use Rattle.feeding.specs.Parts.{Config}
 use Rattle.feeding.specs.Loads.{elementLoad, linkLoad, elementOver, linkOver}
@@ -23,3 +23,11 @@ withinAt g c d e via room = withinOr (ltb (elementOver g c d e via) (g .E)) (ele
 -- over the link l, away from e
 unfoldable pub linkWithin : Grid → Config → (depth l e room : ℕ) → ℕ
 linkWithin g c d l e room = withinOr (ltb (linkOver g c d l e) (g .E)) (linkLoad g c d l e) room
+
+-- over the link of the end j, which is at e; nothing where j is no end
+unfoldable pub endWithin : Grid → Config → (depth j e room : ℕ) → ℕ
+endWithin g c d j e room = elim (ltb j 192) [ true ↦ linkWithin g c d (j / 2) e room | false ↦ 0 ]
+
+-- what a walk answers where `before` has been found already
+unfoldable pub past : (before walked : ℕ) → ℕ
+past before walked = elim (eqb walked overloaded) [ true ↦ overloaded | false ↦ before + walked ]

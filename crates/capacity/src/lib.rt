@@ -1,12 +1,12 @@
 // Whether every live element stays within its capacity: a walk away from each sound source that stops at the first element that does not.
 ghost use mathlib.Core.Path.{_≡_};
 ghost use mathlib.Core.Bool.{not};
-ghost use Prim.Native.Nat.{_<_, _≤_, _*_, _/_, min};
+ghost use Prim.Native.Nat.{_+_, _<_, _≤_, _*_, min};
 ghost use lib.Dec.{ltb};
 ghost use Rattle.feeding.specs.Parts.{closedIn};
 ghost use Rattle.loads.specs.Walks.{nearAt, overPlace};
 ghost use Rattle.packing.specs.Packing.{farOf, PackedLent, packedGrid};
-ghost use Rattle.capacity.specs.Within.{withinAt, linkWithin};
+ghost use Rattle.capacity.specs.Within.{overloaded, withinAt, endWithin, past};
 
 // The answer of a walk that meets an element above its capacity, or more load than there is room for; no load is as high.
 const OVERLOADED: u64 = 18446744073709551615;
@@ -22,8 +22,9 @@ fn room_at(capacity: u32, room: u64) -> u64
     room
 }
 
-// The load at e, come to over the link via, or OVERLOADED where it is above `room` or an element from e onward is above its capacity.
-// No sum is above the room, so a walk stops at the first link that carries too much.
+// `before` and the load at e, come to over the link via, or OVERLOADED where that load is above `room` or an element from e onward is above its capacity.
+// No sum is above the room, so a walk stops at the first link that carries too much. The last link that leads on waits until no other does, and is walked
+// by the call that ends this one, which the compiler makes a jump.
 fn element_within<'a>(
     chain: &'a [u8; 448],
     closed: &'a [u8; 96],
@@ -34,10 +35,12 @@ fn element_within<'a>(
     via: usize,
     depth: usize,
     room: u64,
+    before: u64,
 ) -> u64
     requires { ⌜ PackedLent (now chain) (now closed) (now rating) elements links ⌝ }
     requires { ⌜ (elements ≤ 64) × (e < elements) ⌝ }
-    ensures { λ r. ⌜ r ≡ withinAt (packedGrid elements links (now (chain .entry)) (now (rating .entry))) (closedIn (now (closed .entry))) depth e via room ⌝ }
+    requires { ⌜ before + room < overloaded ⌝ }
+    ensures { λ r. ⌜ r ≡ past before (withinAt (packedGrid elements links (now (chain .entry)) (now (rating .entry))) (closedIn (now (closed .entry))) depth e via room) ⌝ }
 {
     let ratings: &[u32] = rating;
     let most = room_at(ratings[64 + e], room);
@@ -46,35 +49,32 @@ fn element_within<'a>(
         return OVERLOADED;
     }
     if depth == 0 {
-        return sum;
+        return before + sum;
     }
+    let d = depth - 1;
+    let mut last: usize = 192;
     let mut j = chain[e] as usize;
     while j < 192 {
         let l = j / 2;
         if closed[l] == 1 {
             if l != via {
-                let c = link_within(
-                    chain,
-                    closed,
-                    rating,
-                    elements,
-                    links,
-                    j,
-                    depth - 1,
-                    most - sum,
-                );
+                let left = most - sum;
+                let c = link_within(chain, closed, rating, elements, links, last, d, left, 0);
                 if c == OVERLOADED {
                     return c;
                 }
                 sum = sum + c;
+                last = j;
             }
         }
         j = chain[64 + j] as usize;
     }
-    sum
+    let left = most - sum;
+    let all = before + sum;
+    link_within(chain, closed, rating, elements, links, last, d, left, all)
 }
 
-// What the link of end j carries away from that end: the load at its far element, or OVERLOADED.
+// `before` and what the link of end j carries away from that end, the load at its far element, or OVERLOADED; `before` where j is no end.
 fn link_within<'a>(
     chain: &'a [u8; 448],
     closed: &'a [u8; 96],
@@ -84,13 +84,18 @@ fn link_within<'a>(
     j: usize,
     depth: usize,
     room: u64,
+    before: u64,
 ) -> u64
     requires { ⌜ PackedLent (now chain) (now closed) (now rating) elements links ⌝ }
-    requires { ⌜ (elements ≤ 64) × (j < 2 * links) ⌝ }
-    ensures { λ r. ⌜ r ≡ linkWithin (packedGrid elements links (now (chain .entry)) (now (rating .entry))) (closedIn (now (closed .entry))) depth (j / 2) (nearAt (farOf (now (chain .entry))) j) room ⌝ }
+    requires { ⌜ (elements ≤ 64) × (j < 192 → j < 2 * links) ⌝ }
+    requires { ⌜ before + room < overloaded ⌝ }
+    ensures { λ r. ⌜ r ≡ past before (endWithin (packedGrid elements links (now (chain .entry)) (now (rating .entry))) (closedIn (now (closed .entry))) depth j (nearAt (farOf (now (chain .entry))) j) room) ⌝ }
 {
+    if j >= 192 {
+        return before;
+    }
     if depth == 0 {
-        return 0;
+        return before;
     }
     let f = chain[256 + j] as usize;
     element_within(
@@ -103,6 +108,7 @@ fn link_within<'a>(
         j / 2,
         depth - 1,
         room,
+        before,
     )
 }
 
@@ -133,6 +139,7 @@ pub fn all_within<'a>(
                 links,
                 2 * elements,
                 ratings[64 + s] as u64,
+                0,
             );
             if c == OVERLOADED {
                 return false;

@@ -1,13 +1,14 @@
 -- `all_within` answers whether no walk from a marked element finds one above its capacity: the loop keeps that those before s found none.
 -- Assumes nothing.
 use Prim.Native.Nat.{_+_, _-_, _≤_}
-use mathlib.Core.Path.{_≡_, refl}
+use mathlib.Core.Path.{_≡_, refl, _∙_}
 use mathlib.Core.Logic.{⊎-elim}
 use native.Mathlib.Omega.{arith}
 use Rattle.feeding.specs.Networks.{at}
 use Rattle.feeding.specs.Parts.{closedIn}
 use Rattle.loads.proofs.Sources.{placeTo, place-none, place-off}
 use Rattle.capacity.proofs.Sources.{kept-on, kept-not, kept-all}
+use Rattle.capacity.proofs.Waiting.{past-zero}
 use Rattle.packing.specs.Packing.{farOf, loadOf, capacityOf}
 use Rattle.packing.proofs.Packed.{part-at}
 use Rattle.capacity.proofs.all_within.Statement.{statement}
@@ -49,7 +50,8 @@ cast-element-within c =
 element-within-requires : tie.Need-element-within-requires Inv-loop μ-loop
 element-within-requires c κs =
     let pre· = c .before .before .before .before .before .before .pre in
-    (pre· .0, (pre· .1, omega arith))
+    let loop· = c .before .before .before .before .loop in
+    (pre· .0, ((pre· .1, omega arith), omega (arith, c .shared-slice-known .given (64 + loop· .s))))
 
 returns : tie.Need-returns Inv-loop μ-loop
 returns c =
@@ -58,7 +60,7 @@ returns c =
     let element-within· = c .before .element-within in
     kept-not (args· .elements) (args· .links) (farOf (args· .chain .now)) (loadOf (args· .rating .now)) (capacityOf (args· .rating .now)) (closedIn (args· .closed .now)) (args· .sound .now)
     (loop· .s) (element-within· .result) (omega arith) (omega arith) (omega (arith, c .before .before .shared-slice-known .given (64 + loop· .s), part-at 64 64 (args· .rating .now) (loop· .s) (64 + loop· .s) (omega arith) refl))
-    (rw (part-at 64 64 (args· .rating .now) (loop· .s) (64 + loop· .s) (omega arith) refl) (element-within· .ensures)) (omega arith)
+    (rw (part-at 64 64 (args· .rating .now) (loop· .s) (64 + loop· .s) (omega arith) refl) (element-within· .ensures ∙ past-zero _)) (omega arith)
 
 add-s : tie.Need-add-s Inv-loop μ-loop
 add-s c = omega arith
@@ -73,7 +75,7 @@ loop-again c =
       omega arith,
       ⊎-elim
           (λ w. kept-on (args· .elements) (args· .links) (farOf (args· .chain .now)) (loadOf (args· .rating .now)) (capacityOf (args· .rating .now)) (closedIn (args· .closed .now)) (args· .sound .now)
-          (loop· .s) (at (args· .rating .now) (64 + loop· .s)) (w .2 .result) (omega arith) (w .2 .ensures) (omega arith) (loop· .inv .1))
+          (loop· .s) (at (args· .rating .now) (64 + loop· .s)) (w .2 .result) (omega arith) (w .2 .ensures ∙ past-zero _) (omega arith) (loop· .inv .1))
           (λ w. place-off (args· .elements) (args· .links) (farOf (args· .chain .now)) (loadOf (args· .rating .now)) (capacityOf (args· .rating .now)) (closedIn (args· .closed .now)) (args· .sound .now)
           (loop· .s) (args· .elements) (omega arith) (loop· .inv .1))
           (c .if1 .came),
