@@ -297,7 +297,7 @@ pub enum Kind {
     SmallElement,
     /// sources that are too small by a few in all, which a walk finds out last
     SmallSources,
-    /// the same, in parts that are chains with switches at their ends alone: nothing hangs by one link there
+    /// the same, in parts that are chains with switches at their ends alone: hardly anything hangs by one link there
     SmallSourcesOfChains,
     /// nothing
     Planned,
