@@ -1,24 +1,24 @@
 -- The turns of `element_within` and `link_within`: the walk of `loads` in which nothing above its capacity has been found so far, and no sum is
 -- above the room.
 -- Assumes nothing.
-use Prim.Native.Nat.{ℕ, zero, suc, _+_, _*_, _/_, _%_, _≤_, _<_, min}
+use Prim.Native.Nat.{ℕ, zero, suc, _+_, _*_, _/_, _≤_, _<_, min}
 use mathlib.Core.Path.{_≡_, refl, sym, ap, _∙_}
-use mathlib.Core.Bool.{Bool, true, false, not, _||_, or-true}
+use mathlib.Core.Bool.{Bool, true, false, not, or-true}
 use mathlib.Core.Logic.{_⊎_, inl, inr, ⊎-elim}
 use mathlib.Core.List.{List}
-use lib.Dec.{eqb, ltb}
-use borrow.Author.Tests.{eqb-true, eqb-false, eq-eqb, ne-eqb, lt-ltb, le-ltb, ltb-true, ltb-false, lt-leb}
+use lib.Dec.{ltb}
+use borrow.Author.Tests.{eq-eqb, ne-eqb, lt-ltb, le-ltb, ltb-true, ltb-false}
 use native.Mathlib.Omega.{arith}
 use Rattle.feeding.specs.Networks.{Grid, at}
 use Rattle.feeding.specs.Parts.{Config, closedIn, touches, far}
-use Rattle.feeding.specs.Loads.{leads, elementLoad, linkLoad, above, elementOver, linkOver}
+use Rattle.feeding.specs.Loads.{leads, elementLoad, linkLoad, elementOver, linkOver}
 use Rattle.feeding.proofs.Below.{and-both, orElse}
 use Rattle.feeding.proofs.Lows.{leastTo-le}
-use Rattle.ends.proofs.Chains.{end-even, end-odd}
-use Rattle.loads.specs.Walks.{endsA, endsB, nearAt, walkGrid, Lent, lowerOver, elementCarried}
+use Rattle.feeding.proofs.Overloads.{above-in}
+use Rattle.loads.specs.Walks.{nearAt, walkGrid, Lent, lowerOver, elementCarried}
 use Rattle.loads.specs.declared.Carried.{Carried}
 use Rattle.loads.proofs.Rounds.{Walked, lower-within, load-none, load-more, over-none, over-more}
-use Rattle.loads.proofs.Lending.{element-load-in, element-over-in, far-end}
+use Rattle.loads.proofs.Lending.{element-load-in, element-over-in, end-touches, far-end}
 use Rattle.loads.proofs.Lending.{turn-none, turn-done, turn-below, turn-near, turn-room}
 use Rattle.capacity.specs.Within.{overloaded, withinOr, withinAt, linkWithin}
 
@@ -65,14 +65,10 @@ fits-so false x room h = go (ltb room x) refl h
 
 -- ---- at an element
 
-above-is : (g : Grid) (e x : ℕ) → g .capacity e < x → above g e x ≡ e
-unfolding above
-above-is g e x h = rw (lt-leb x (g .capacity e) h, above)
-
 -- the element itself is found where its load is above its capacity
 here-over : (g : Grid) (c : Config) (d e via : ℕ) → e < g .E → g .capacity e < elementLoad g c d e via → elementOver g c d e via < g .E
-here-over g c zero e via k h = omega (arith, over-none g c e via, load-none g c e via, above-is g e (g .load e) (omega (arith, load-none g c e via)))
-here-over g c (suc d) e via k h = omega (arith, over-more g c d e via, above-is g e (elementLoad g c (suc d) e via) h)
+here-over g c zero e via k h = omega (arith, over-none g c e via, load-none g c e via, above-in g e (g .load e) (omega (arith, load-none g c e via)))
+here-over g c (suc d) e via k h = omega (arith, over-more g c d e via, above-in g e (elementLoad g c (suc d) e via) h)
 
 -- at least x comes to e, which is above its capacity or the room
 too-much : (g : Grid) (c : Config) (d e via room x : ℕ) → e < g .E → x ≤ elementLoad g c d e via → min (g .capacity e) room < x
@@ -114,22 +110,12 @@ over-on g c d e via l k h =
     let here : f l ≡ linkOver g c d l e = rw h in
     omega (arith, over-more g c d e via, leastTo-le (g .K) (g .E) f l k, here)
 
--- the link of an end is a link of the element at that end
-end-touches : (E K : ℕ) (fars load capacity : List ℕ) (j : ℕ) → touches (walkGrid E K fars load capacity) (j / 2) (nearAt fars j) ≡ true
-unfolding walkGrid touches
-end-touches E K fars load capacity j = go (eqb (j % 2) 0) refl
-  where
-    go : (t : Bool) → eqb (j % 2) 0 ≡ t → (eqb (endsA fars (j / 2)) (nearAt fars j) || eqb (endsB fars (j / 2)) (nearAt fars j)) ≡ true
-    go true t = rw (eq-eqb (endsA fars (j / 2)) (nearAt fars j) (sym (end-even (endsA fars) (endsB fars) j (eqb-true _ 0 t))))
-    go false t = rw (eq-eqb (endsB fars (j / 2)) (nearAt fars j) (sym (end-odd (endsA fars) (endsB fars) j (eqb-false _ 0 t))))
-        (or-true (eqb (endsA fars (j / 2)) (nearAt fars j)))
-
 end-leads : (E K : ℕ) (fars closed load capacity : List ℕ) (j e via : ℕ) → nearAt fars j ≡ e → at closed (j / 2) ≡ 1 → (j / 2 ≡ via → ⊥)
     → leads (walkGrid E K fars load capacity) (closedIn closed) e via (j / 2) ≡ true
-unfolding leads
+unfolding leads walkGrid
 end-leads E K fars closed load capacity j e via q h n =
     and-both (closedIn closed (j / 2)) _ (eq-eqb _ 1 h)
-    (and-both (touches (walkGrid E K fars load capacity) (j / 2) e) _ (rw (← q) (end-touches E K fars load capacity j))
+    (and-both (touches (walkGrid E K fars load capacity) (j / 2) e) _ (rw (← q) (end-touches (walkGrid E K fars load capacity) j))
     (ap not (ne-eqb (j / 2) via n)))
 
 -- ---- what is read from the lists has a bound

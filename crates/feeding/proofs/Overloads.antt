@@ -26,7 +26,7 @@ above-out g e x = go (leb x (g .capacity e)) refl
     go true t h = absurd (omega arith)
     go false t h = (leb-false x (g .capacity e) t, refl)
 
-above-in : (g : Grid) (e x : ℕ) → g .capacity e < x → above g e x ≡ e
+pub above-in : (g : Grid) (e x : ℕ) → g .capacity e < x → above g e x ≡ e
 unfolding above
 above-in g e x h = rw (lt-leb x (g .capacity e) h, above)
 

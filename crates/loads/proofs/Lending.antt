@@ -2,16 +2,17 @@
 -- Assumes nothing.
 use Prim.Native.Nat.{ℕ, suc, _+_, _*_, _/_, _%_, _≤_, _<_, min}
 use mathlib.Core.Path.{_≡_, refl, sym, ap, subst, _∙_}
-use mathlib.Core.Bool.{Bool, true, false}
+use mathlib.Core.Bool.{Bool, true, false, _||_, or-true}
 use mathlib.Core.List.{List}
 use lib.Dec.{eqb}
 use borrow.Author.Tests.{eqb-true, eqb-false, eq-eqb, ne-eqb}
 use native.Mathlib.Omega.{arith}
 use Rattle.feeding.specs.Networks.{Grid, Formed, at}
-use Rattle.feeding.specs.Parts.{Config, closedIn, far}
+use Rattle.feeding.specs.Parts.{Config, closedIn, touches, far}
 use Rattle.feeding.specs.Loads.{elementLoad, linkLoad, elementOver, linkOver}
 use Rattle.loads.specs.Walks.{endsA, endsB, nearAt, walkGrid, Skips, Lent, lowerOver, elementCarried, linkCarried}
 use Rattle.loads.specs.declared.Carried.{Carried}
+use Rattle.ends.specs.Ends.{endAt}
 use Rattle.ends.proofs.Chains.{end-even, end-odd}
 use Rattle.loads.proofs.Rounds.{Walked, walked-start, walked-on, walked-open, walked-via}
 use Rattle.loads.proofs.Rounds.{walked-room, walked-done, element-none, link-none, link-more, link-load}
@@ -116,22 +117,48 @@ module _ (head next far closed load capacity : List ℕ) (E K : ℕ) (lent : Len
         → sum + r .load ≤ elementLoad (walkGrid E K far load capacity) (closedIn closed) depth e via
     turn-room-by depth r z h n q = rw (ap (λ (x : Carried). x .load) q ∙ link-load-in _ _ d _ _) (turn-room depth z h n)
 
+-- the link of an end is a link of the element at that end
+pub end-touches : (g : Grid) (j : ℕ) → touches g (j / 2) (endAt (g .endA) (g .endB) j) ≡ true
+unfolding touches
+end-touches g j = go (eqb (j % 2) 0) refl
+  where
+    e : ℕ
+    e = endAt (g .endA) (g .endB) j
+
+    go : (t : Bool) → eqb (j % 2) 0 ≡ t → (eqb (g .endA (j / 2)) e || eqb (g .endB (j / 2)) e) ≡ true
+    go true t = rw (eq-eqb (g .endA (j / 2)) e (sym (end-even (g .endA) (g .endB) j (eqb-true _ 0 t))))
+    go false t = rw (eq-eqb (g .endB (j / 2)) e (sym (end-odd (g .endA) (g .endB) j (eqb-false _ 0 t)))) (or-true (eqb (g .endA (j / 2)) e))
+
+-- and leads to the one at its other end
+pub end-far : (g : Grid) → ((l : ℕ) → l < g .K → g .endA l ≡ g .endB l → ⊥) → (j : ℕ) → j < 2 * g .K
+    → far g (j / 2) (endAt (g .endA) (g .endB) j) ≡ endAt (g .endB) (g .endA) j
+unfolding far
+end-far g differ j k = go (eqb (j % 2) 0) refl
+  where
+    go : (t : Bool) → eqb (j % 2) 0 ≡ t → far g (j / 2) (endAt (g .endA) (g .endB) j) ≡ endAt (g .endB) (g .endA) j
+    go true t =
+        let even : j % 2 ≡ 0 = eqb-true _ 0 t in
+        rw (end-even (g .endA) (g .endB) j even, eq-eqb (g .endA (j / 2)) (g .endA (j / 2)) refl) (sym (end-even (g .endB) (g .endA) j even))
+    go false t =
+        let odd : j % 2 ≡ 0 → ⊥ = eqb-false _ 0 t in
+        let apart : eqb (g .endA (j / 2)) (g .endB (j / 2)) ≡ false = ne-eqb _ _ (differ (j / 2) (omega arith)) in
+        rw (end-odd (g .endA) (g .endB) j odd, apart) (sym (end-odd (g .endB) (g .endA) j odd))
+
 -- the element at the far end of an end's link
 pub far-end : (E K : ℕ) (fars load capacity : List ℕ) → ((l : ℕ) → l < K → endsA fars l ≡ endsB fars l → ⊥) → (j : ℕ) → j < 2 * K
     → far (walkGrid E K fars load capacity) (j / 2) (nearAt fars j) ≡ at fars j
-unfolding walkGrid far
-far-end E K fars load capacity differ j k = go (eqb (j % 2) 0) refl
+unfolding walkGrid
+far-end E K fars load capacity differ j k = end-far (walkGrid E K fars load capacity) differ j k ∙ go (eqb (j % 2) 0) refl
   where
-    go : (t : Bool) → eqb (j % 2) 0 ≡ t → far (walkGrid E K fars load capacity) (j / 2) (nearAt fars j) ≡ at fars j
+    go : (t : Bool) → eqb (j % 2) 0 ≡ t → endAt (endsB fars) (endsA fars) j ≡ at fars j
     go true t =
         let even : j % 2 ≡ 0 = eqb-true _ 0 t in
         let same : 2 * (j / 2) ≡ j = omega arith in
-        rw (end-even (endsA fars) (endsB fars) j even, eq-eqb (endsA fars (j / 2)) (endsA fars (j / 2)) refl) (ap (at fars) same)
+        end-even (endsB fars) (endsA fars) j even ∙ ap (at fars) same
     go false t =
         let odd : j % 2 ≡ 1 = omega (arith, eqb-false (j % 2) 0 t) in
         let same : 2 * (j / 2) + 1 ≡ j = omega arith in
-        let apart : eqb (endsA fars (j / 2)) (endsB fars (j / 2)) ≡ false = ne-eqb _ _ (differ (j / 2) (omega arith)) in
-        rw (end-odd (endsA fars) (endsB fars) j (eqb-false _ 0 t), apart) (ap (at fars) same)
+        end-odd (endsB fars) (endsA fars) j (eqb-false _ 0 t) ∙ ap (at fars) same
 
 module _ (head next fars closed load capacity : List ℕ) (E K : ℕ) (lent : Lent head next fars closed load capacity E K) where
   -- the turn of the link of the end j, with no depth left and with some

@@ -1,16 +1,17 @@
 -- A spur hangs by its only chained end: any other closed link at it would have an end in the chain.
 -- Assumes nothing.
-use Prim.Native.Nat.{ℕ, suc, _*_, _+_, _/_, _%_, _≤_, _<_}
-use mathlib.Core.Path.{_≡_, refl, sym, ap, _∙_}
-use mathlib.Core.Bool.{Bool, true, false, _||_, false≢true, or-true}
+use Prim.Native.Nat.{ℕ, suc, _*_, _+_, _/_, _≤_, _<_}
+use mathlib.Core.Path.{_≡_, refl, sym, ap, _∙_, subst}
+use mathlib.Core.Bool.{Bool, true, false, _||_, false≢true}
 use lib.Dec.{eqb, ltb}
-use borrow.Author.Tests.{eqb-true, eqb-false, eq-eqb, ne-eqb, ltb-true, ltb-false}
+use borrow.Author.Tests.{eqb-true, ltb-true, ltb-false}
 use native.Mathlib.Omega.{arith}
 use Rattle.feeding.specs.Networks.{Grid, Formed, at}
 use Rattle.feeding.specs.Parts.{Config, touches, far}
 use Rattle.ends.specs.Ends.{endAt, own, ownEnd, ownEnds}
 use Rattle.ends.specs.declared.OwnEnds.{OwnEnds}
-use Rattle.ends.proofs.Chains.{end-even, end-odd, end-first, end-second, own-yes, own-below, own-at, ownEnd-has, ownEnd-none}
+use Rattle.ends.proofs.Chains.{end-first, end-second, own-yes, own-below, own-at, ownEnd-has, ownEnd-none}
+use Rattle.loads.proofs.Lending.{end-touches, end-far}
 use Rattle.loads.proofs.Same.{far-at, head-at, next-at}
 use Rattle.spurs.proofs.Spur.{Hangs}
 
@@ -47,25 +48,10 @@ module _ (g : Grid) (formed : Formed g) (fit : g .K ≤ 96) (has : ℕ → Bool)
         go false t false q = omega (arith, ltb-false i j t, ltb-false j i q)
 
     touch : touches g (j / 2) e ≡ true
-    unfolding touches
-    touch = go (eqb (j % 2) 0) refl
-      where
-        go : (t : Bool) → eqb (j % 2) 0 ≡ t → (eqb (g .endA (j / 2)) e || eqb (g .endB (j / 2)) e) ≡ true
-        go true t = rw (eq-eqb (g .endA (j / 2)) e (sym (end-even (g .endA) (g .endB) j (eqb-true _ 0 t)) ∙ near))
-        go false t = rw (eq-eqb (g .endB (j / 2)) e (sym (end-odd (g .endA) (g .endB) j (eqb-false _ 0 t)) ∙ near)) (or-true (eqb (g .endA (j / 2)) e))
+    touch = subst (λ x. touches g (j / 2) x ≡ true) near (end-touches g j)
 
     far-is : far g (j / 2) e ≡ at (chained .far) j
-    unfolding far
-    far-is = go (eqb (j % 2) 0) refl ∙ sym (far-at (g .endA) (g .endB) has (g .K) fit j below)
-      where
-        go : (t : Bool) → eqb (j % 2) 0 ≡ t → far g (j / 2) e ≡ endAt (g .endB) (g .endA) j
-        go true t =
-            let here : g .endA (j / 2) ≡ e = sym (end-even (g .endA) (g .endB) j (eqb-true _ 0 t)) ∙ near in
-            rw (eq-eqb (g .endA (j / 2)) e here, far) (sym (end-even (g .endB) (g .endA) j (eqb-true _ 0 t)))
-        go false t =
-            let here : g .endB (j / 2) ≡ e = sym (end-odd (g .endA) (g .endB) j (eqb-false _ 0 t)) ∙ near in
-            rw (ne-eqb (g .endA (j / 2)) e (λ q. formed .differ (j / 2) (omega (arith, below)) (q ∙ sym here)), far)
-            (sym (end-odd (g .endB) (g .endA) j (eqb-false _ 0 t)))
+    far-is = ap (far g (j / 2)) (sym near) ∙ end-far g (formed .differ) j below ∙ sym (far-at (g .endA) (g .endB) has (g .K) fit j below)
 
     -- a link at e in the set is the one of that end
     only-link : (m : ℕ) → m < g .K → has m ≡ true → touches g m e ≡ true → m ≡ j / 2
