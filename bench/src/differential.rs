@@ -1,8 +1,11 @@
 //! The proved functions beside the independent ones on random inputs: every printed byte, every value, and every byte of the lent buffers.
 use crate::library;
 use bench::counts::Counts;
+use bench::draft::plan_file;
+use bench::hard;
 use bench::independent::{self, Mark, Reply};
 use bench::inputs::input;
+use bench::plans;
 use bench::random::Random;
 use std::fmt::Debug;
 
@@ -17,25 +20,43 @@ const ENOUGH: usize = 20_000;
 /// What differed, and what each side gave.
 type Difference = String;
 
-/// Compares on so many inputs; on a difference says all that is needed to see it again.
+/// Compares on so many inputs, and on a tenth as many networks that are hard to plan.
 pub fn run(seed: u64, count: usize) -> Result<(), String> {
     let mut r = Random::new(seed);
     let mut counts = Counts::default();
-    for number in 1..=count {
-        let input = input(&mut r);
-        let room = r.below(60);
-        compare(&input, room, &mut counts).map_err(|difference| {
-            let hex: String = input.iter().map(|byte| format!("{byte:02x}")).collect();
-            format!("difference at seed {seed}, input {number} of {} bytes:\n{hex}\n{difference}", input.len())
-        })?;
-    }
+    compare_all(&mut r, seed, count, input, &mut counts)?;
     print!("{counts}");
-    println!("{count} inputs, seed {seed}: 0 differences");
+    compare_all(&mut r, seed, count / 10, hard_input, &mut Counts::default())?;
+    println!("{count} inputs and {} hard networks, seed {seed}: 0 differences", count / 10);
     let missing = counts.missing();
     if count >= ENOUGH && !missing.is_empty() {
         return Err(format!("never occurred: {}", missing.join(", ")));
     }
     Ok(())
+}
+
+/// Compares on so many inputs that are drawn; on a difference says all that is needed to see it again.
+fn compare_all(r: &mut Random, seed: u64, count: usize, draw: fn(&mut Random) -> Vec<u8>, counts: &mut Counts) -> Result<(), String> {
+    for number in 1..=count {
+        let input = draw(r);
+        let room = r.below(60);
+        compare(&input, room, counts).map_err(|difference| {
+            let hex: String = input.iter().map(|byte| format!("{byte:02x}")).collect();
+            format!("difference at seed {seed}, input {number} of {} bytes:\n{hex}\n{difference}", input.len())
+        })?;
+    }
+    Ok(())
+}
+
+/// A network that is hard to plan, or one with good steps behind it, for the judge.
+fn hard_input(r: &mut Random) -> Vec<u8> {
+    let mut file = hard::any(r).file();
+    if r.one_in(2) {
+        if let Ok(accepted) = independent::accept(&file) {
+            file.extend(plan_file(&plans::good(r, &accepted, plans::MOST, false)));
+        }
+    }
+    file
 }
 
 /// All comparisons on one input; `room` is the size of one more plan buffer, of any length.

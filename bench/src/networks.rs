@@ -297,8 +297,6 @@ pub enum Kind {
     SmallElement,
     /// sources that are too small by a few in all, which a walk finds out last
     SmallSources,
-    /// the same, in parts that are chains with switches at their ends alone: hardly anything hangs by one link there
-    SmallSourcesOfChains,
     /// nothing
     Planned,
 }
@@ -312,9 +310,8 @@ pub fn large(r: &mut Random, kind: Kind) -> Draft {
     for e in 0..ELEMENTS {
         draft.add_element(r.below(5) as u16, 2000, (e < sources) as u16);
         let group = if e < groups { e } else { r.below(groups) };
-        if let Some(&last) = members[group].last() {
-            let near = if kind == Kind::SmallSourcesOfChains { last } else { r.pick(&members[group]) };
-            draft.add_link((near, e), FIXED, 0);
+        if !members[group].is_empty() {
+            draft.add_link((r.pick(&members[group]), e), FIXED, 0);
         }
         members[group].push(e);
     }
@@ -325,8 +322,7 @@ pub fn large(r: &mut Random, kind: Kind) -> Draft {
         let h = if r.one_in(3) { r.below(sources) } else { r.below(groups) };
         if g != h {
             let cost = cost(r, 9);
-            let ends = (tied(r, &members[g], kind), tied(r, &members[h], kind));
-            draft.add_link(ends, OPEN, cost);
+            draft.add_link((r.pick(&members[g]), r.pick(&members[h])), OPEN, cost);
             ties += 1;
         }
     }
@@ -340,21 +336,13 @@ pub fn large(r: &mut Random, kind: Kind) -> Draft {
     draft
 }
 
-/// The element of a part at which a switch stands.
-fn tied(r: &mut Random, part: &[usize], kind: Kind) -> usize {
-    match kind {
-        Kind::SmallSourcesOfChains => r.pick(&[part[0], part[part.len() - 1]]),
-        _ => r.pick(part),
-    }
-}
-
 fn limit(draft: &mut Draft, kind: Kind, sources: usize, last: usize) {
     match kind {
         Kind::SmallElement => {
             draft.elements[last].load = 9;
             draft.elements[last].capacity = 8;
         }
-        Kind::SmallSources | Kind::SmallSourcesOfChains => {
+        Kind::SmallSources => {
             let total: u16 = draft.elements.iter().map(|e| e.load).sum();
             (0..sources).for_each(|e| draft.elements[e].capacity = total / sources as u16 - 1);
         }

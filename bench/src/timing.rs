@@ -1,6 +1,7 @@
 //! The time from an input's bytes to the printed bytes, proved and independent in turns.
 use crate::library;
-use bench::draft::plan_file;
+use bench::draft::{plan_file, Draft};
+use bench::hard::{self, Costs, Tight};
 use bench::independent::{self, Reply, LINKS, SWITCHES};
 use bench::networks::{self, Kind};
 use bench::plans;
@@ -8,7 +9,8 @@ use bench::random::Random;
 use std::hint::black_box;
 use std::time::Instant;
 
-const ROUNDS: usize = 21;
+const ROUNDS: usize = 63;
+const FEW: usize = 3;
 const DRAWN: usize = 2000;
 const KEPT: usize = 100;
 
@@ -42,29 +44,19 @@ fn independent_mark(input: &[u8], out: &mut Vec<u8>) {
     independent::mark_text(input, out);
 }
 
-/// Nanoseconds for one input in each round, proved and independent.
-struct Rounds(Vec<[f64; 2]>);
+/// Nanoseconds for one input, proved and independent.
+#[derive(Clone, Copy)]
+struct Times([f64; 2]);
 
-impl Rounds {
-    /// The median of the rounds' ratios: within a round both run at the same speed of the machine, between rounds it may change.
-    fn ratio(&self) -> f64 {
-        median(self.0.iter().map(|[proved, other]| proved / other))
-    }
-
-    fn medians(&self) -> [f64; 2] {
-        [0, 1].map(|which| median(self.0.iter().map(|round| round[which])))
+impl Times {
+    fn ratio(self) -> f64 {
+        self.0[0] / self.0[1]
     }
 
     /// Both groups one after the other.
-    fn and(&self, other: &Rounds) -> Rounds {
-        Rounds(self.0.iter().zip(&other.0).map(|(a, b)| [a[0] + b[0], a[1] + b[1]]).collect())
+    fn and(self, other: Times) -> Times {
+        Times([self.0[0] + other.0[0], self.0[1] + other.0[1]])
     }
-}
-
-fn median(numbers: impl Iterator<Item = f64>) -> f64 {
-    let mut sorted: Vec<f64> = numbers.collect();
-    sorted.sort_by(f64::total_cmp);
-    sorted[sorted.len() / 2]
 }
 
 /// Nanoseconds that a program takes for some inputs.
@@ -77,42 +69,49 @@ fn time(program: Program, inputs: &[Vec<u8>], out: &mut Vec<u8>) -> f64 {
     start.elapsed().as_nanos() as f64
 }
 
-/// One round over the inputs; the two take turns after every few.
-fn round(programs: Pair, inputs: &[Vec<u8>], outs: &mut [Vec<u8>; 2]) -> [f64; 2] {
-    let mut sums = [0.0; 2];
-    for few in inputs.chunks(10) {
+/// The least times that the two programs take for some inputs, in turns: what else the machine does only ever adds time.
+fn least(programs: Pair, inputs: &[Vec<u8>], turns: usize, outs: &mut [Vec<u8>; 2]) -> [f64; 2] {
+    let mut least = [f64::MAX; 2];
+    for _ in 0..turns {
         for which in 0..2 {
-            sums[which] += time(programs[which], few, &mut outs[which]);
+            least[which] = least[which].min(time(programs[which], inputs, &mut outs[which]));
         }
     }
-    sums.map(|sum| sum / inputs.len() as f64)
+    least
 }
 
-fn rounds(programs: Pair, inputs: &[Vec<u8>]) -> Rounds {
+/// The sum over every few inputs of the least times of all rounds.
+fn rounds(programs: Pair, inputs: &[Vec<u8>]) -> Times {
     let mut outs = [vec![], vec![]];
-    Rounds((0..ROUNDS).map(|_| round(programs, inputs, &mut outs)).collect())
+    let mut least_of = vec![[f64::MAX; 2]; inputs.len().div_ceil(FEW)];
+    for _ in 0..ROUNDS {
+        for (few, so_far) in inputs.chunks(FEW).zip(&mut least_of) {
+            let now = least(programs, few, 1, &mut outs);
+            *so_far = [so_far[0].min(now[0]), so_far[1].min(now[1])];
+        }
+    }
+    let sums = least_of.iter().fold([0.0; 2], |sums, times| [sums[0] + times[0], sums[1] + times[1]]);
+    Times(sums.map(|sum| sum / inputs.len() as f64))
 }
 
-/// The least times on one input of three runs each, in turns.
+/// The least times on one input of three runs each.
 fn quickest(programs: Pair, input: &Vec<u8>) -> [f64; 2] {
-    let mut outs = [vec![], vec![]];
-    let one = std::slice::from_ref(input);
-    (0..3).map(|_| round(programs, one, &mut outs)).fold([f64::MAX; 2], |least, times| [least[0].min(times[0]), least[1].min(times[1])])
+    least(programs, std::slice::from_ref(input), 3, &mut [vec![], vec![]])
 }
 
 /// Measures a group and prints its line.
-fn measure(name: &str, unit: &str, programs: Pair, inputs: &[Vec<u8>]) -> Rounds {
-    let rounds = rounds(programs, inputs);
+fn measure(name: &str, unit: &str, programs: Pair, inputs: &[Vec<u8>]) -> Times {
+    let times = rounds(programs, inputs);
     let worst = inputs.iter().map(|input| quickest(programs, input)).map(|[proved, other]| proved / other).fold(0.0, f64::max);
-    let [proved, other] = rounds.medians();
+    let Times([proved, other]) = times;
     println!(
         "{name}, {} inputs: proved {proved:.0} ns a {unit}, {:.0} {unit}s a second; Rust {other:.0} ns, {:.0} a second; ratio {:.2}, worst input {worst:.2}",
         inputs.len(),
         1e9 / proved,
         1e9 / other,
-        rounds.ratio()
+        times.ratio()
     );
-    rounds
+    times
 }
 
 /// Accepted networks of many sizes.
@@ -127,24 +126,24 @@ fn random_networks(r: &mut Random) -> Vec<Vec<u8>> {
     files
 }
 
-/// A network of 64 elements, 96 links and 12 operable switches.
-fn largest(r: &mut Random, kind: Kind) -> Vec<u8> {
+/// A network of 64 elements, 96 links and 12 operable switches, with a plan or without.
+fn largest(r: &mut Random, planned: bool, draw: impl Fn(&mut Random) -> Draft) -> Vec<u8> {
     loop {
-        let draft = networks::large(r, kind);
+        let draft = draw(r);
         let file = draft.file();
         let Ok(accepted) = independent::accept(&file) else { continue };
-        let planned = matches!(independent::plan(&file), Reply::Plan(..));
-        if draft.links.len() == LINKS && accepted.start.operable.count_ones() as usize == SWITCHES && planned == (kind == Kind::Planned) {
+        let has_plan = matches!(independent::plan(&file), Reply::Plan(..));
+        if draft.links.len() == LINKS && accepted.start.operable.count_ones() as usize == SWITCHES && has_plan == planned {
             return file;
         }
     }
 }
 
 /// Of the networks drawn, those that take the two planners longest together.
-fn hardest(r: &mut Random, kind: Kind) -> Vec<Vec<u8>> {
+fn hardest(r: &mut Random, planned: bool, draw: impl Fn(&mut Random) -> Draft) -> Vec<Vec<u8>> {
     let mut drawn: Vec<(f64, Vec<u8>)> = vec![];
     for _ in 0..DRAWN {
-        let file = largest(r, kind);
+        let file = largest(r, planned, &draw);
         let [proved, other] = quickest(PLANNERS, &file);
         drawn.push((proved + other, file));
     }
@@ -156,7 +155,7 @@ fn hardest(r: &mut Random, kind: Kind) -> Vec<Vec<u8>> {
 fn judged(r: &mut Random, steps: fn(&mut Random, &[u8]) -> Vec<plans::Step>) -> Vec<Vec<u8>> {
     let mut inputs = vec![];
     while inputs.len() < KEPT {
-        let mut file = largest(r, Kind::Planned);
+        let mut file = largest(r, true, |r| networks::large(r, Kind::Planned));
         let steps = steps(r, &file);
         file.extend(plan_file(&steps));
         inputs.push(file);
@@ -176,27 +175,51 @@ fn any_good(r: &mut Random, network: &[u8]) -> Vec<plans::Step> {
     steps
 }
 
-fn measure_planner(r: &mut Random) -> (Rounds, Rounds) {
-    let random = measure("random networks", "plan", PLANNERS, &random_networks(r));
-    let element = measure("hardest, no plan, an element too small", "plan", PLANNERS, &hardest(r, Kind::SmallElement));
-    let sources = measure("hardest, no plan, sources too small", "plan", PLANNERS, &hardest(r, Kind::SmallSources));
-    let chains = measure("hardest, no plan, sources of chains too small", "plan", PLANNERS, &hardest(r, Kind::SmallSourcesOfChains));
-    measure("hardest, with a plan", "plan", PLANNERS, &hardest(r, Kind::Planned));
-    (random, element.and(&sources).and(&chains))
+/// The kinds of hard networks by their names.
+const TIGHT: [(&str, Tight); 4] = [
+    ("sources to be shared out", Tight::Sources),
+    ("sources of chains to be shared out", Tight::SourcesOfChains),
+    ("branches of a source that suffices", Tight::Branches),
+    ("passages in the dark", Tight::Passages),
+];
+
+/// Each kind without a plan; all of them together.
+fn measure_hard(r: &mut Random) -> Times {
+    let measure_kind = |(name, tight)| {
+        let networks = hardest(r, false, |r| hard::network(r, tight, Costs::Mixed, true));
+        measure(&format!("hardest, no plan, {name}"), "plan", PLANNERS, &networks)
+    };
+    sum(TIGHT.map(measure_kind))
 }
 
-fn measure_judge(r: &mut Random) -> Rounds {
+/// Each kind with a plan that is found late, and with equal costs; all of them together.
+fn measure_planned(r: &mut Random) -> Times {
+    let mut measure_kind = |name: &str, tight: Tight, costs: Costs| {
+        let networks = hardest(r, true, |r| hard::network(r, tight, costs, false));
+        measure(&format!("hardest, with a plan, {name}"), "plan", PLANNERS, &networks)
+    };
+    let late = TIGHT.map(|(name, tight)| measure_kind(&format!("{name}, found late"), tight, Costs::Late));
+    let equal = TIGHT.map(|(name, tight)| measure_kind(&format!("{name}, equal costs"), tight, Costs::Equal));
+    sum(late).and(sum(equal))
+}
+
+fn sum(groups: [Times; 4]) -> Times {
+    groups.into_iter().reduce(|all, group| all.and(group)).expect("four groups")
+}
+
+fn measure_judge(r: &mut Random) -> Times {
     let full = measure("judge, large, valid, 254 or 255 steps", "mark", JUDGES, &judged(r, longest));
     let good = measure("judge, large, 20 to 200 good steps", "mark", JUDGES, &judged(r, any_good));
     let printed = measure("judge, large, the printed plan", "mark", JUDGES, &judged(r, |_, network| plans::printed(network)));
     let empty = measure("judge, large, no step", "mark", JUDGES, &judged(r, |_, _| vec![]));
-    full.and(&good).and(&printed).and(&empty)
+    full.and(good).and(printed).and(empty)
 }
 
-/// The last line has the ratios; `hard` and `judge` are of the sums over their groups.
+/// The last line has the ratios; but for `random` they are of the sums over their groups.
 pub fn run(seed: u64) {
     let mut r = Random::new(seed);
-    let (random, hard) = measure_planner(&mut r);
+    let random = measure("random networks", "plan", PLANNERS, &random_networks(&mut r));
+    let (hard, planned) = (measure_hard(&mut r), measure_planned(&mut r));
     let judge = measure_judge(&mut r);
-    println!("ratio random={:.2} hard={:.2} judge={:.2}", random.ratio(), hard.ratio(), judge.ratio());
+    println!("ratio random={:.2} hard={:.2} planned={:.2} judge={:.2}", random.ratio(), hard.ratio(), planned.ratio(), judge.ratio());
 }

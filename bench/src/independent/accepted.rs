@@ -1,39 +1,43 @@
 //! A network that keeps rules 14 to 18, with what planner and judge need of it.
 use super::bits;
-use super::neighbours::Neighbours;
-use super::network::Network;
+use super::network::{Network, ELEMENTS};
 use super::reader::Refusal;
 use super::start::{refuse_lowest, Start};
+use super::walk::Walk;
 
 pub const SWITCHES: usize = 12;
 
 pub struct Accepted {
-    pub network: Network,
+    pub network: Box<Network>,
     pub start: Start,
-    /// the starting configuration
-    pub neighbours: Neighbours,
+    /// its live parts, from their sources
+    pub live: Walk,
 }
 
 impl Accepted {
-    pub fn from(network: Network) -> Result<Accepted, Refusal> {
-        let (start, neighbours) = Start::of(&network)?;
-        refuse_lowest(17, overloaded(&network, &neighbours))?;
+    pub fn from(mut network: Box<Network>) -> Result<Accepted, Refusal> {
+        let (start, live) = Start::of(&network)?;
+        refuse_lowest(17, overloaded(&network, &live))?;
         let count = start.operable.count_ones() as usize;
         if count > SWITCHES {
             return Err(Refusal { rule: 18, place: count as u64 });
         }
-        Ok(Accepted { network, start, neighbours })
-    }
-
-    pub fn is_operable(&self, link: usize) -> bool {
-        self.start.operable >> link & 1 == 1
+        for link in bits(start.operable & network.closed) {
+            let ends = network.ends(link);
+            network.neighbours.open(ends);
+        }
+        Ok(Accepted { network, start, live })
     }
 }
 
-fn overloaded(network: &Network, neighbours: &Neighbours) -> u64 {
+fn overloaded(network: &Network, live: &Walk) -> u64 {
+    let mut behind = [0u32; ELEMENTS];
     let mut over = 0;
-    for source in bits(network.sound as u128) {
-        neighbours.load_at(network, source, 0, &mut over);
+    for element in live.inwards() {
+        let ratings = network.ratings[element];
+        let load = behind[element] + ratings.load as u32;
+        over |= ((load > ratings.capacity as u32) as u64) << element;
+        behind[live.from[element] as usize] += load;
     }
     over
 }

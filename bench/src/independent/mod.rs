@@ -1,23 +1,32 @@
-//! The planner and the judge, written from document 01 and unverified (docs/DECISIONS.md, 58): sets as bit masks, and a search that carries its parts along.
+//! The planner and the judge, written from document 01 and unverified (docs/DECISIONS.md, 58): sets as bit masks, and a search that grows
+//! the tree of closed switches from the sources and carries loads, supply and cost along.
 mod accepted;
 mod bits;
+mod feeding;
 mod judge;
 mod neighbours;
 mod network;
+mod nodes;
 mod planner;
 mod reader;
 mod search;
+mod spurs;
 mod start;
 mod submitted;
+mod supply;
 mod text;
+mod trial;
+mod walk;
+mod weights;
 
 pub use accepted::{Accepted, SWITCHES};
 pub use bits::bits;
-pub use judge::{mark, Mark, Trial};
+pub use judge::{mark, Mark};
 pub use network::{ELEMENTS, LINKS};
 pub use planner::{plan, Plan, Reply};
 pub use reader::Refusal;
 pub use start::Start;
+pub use trial::Trial;
 
 use reader::Reader;
 
@@ -32,7 +41,7 @@ pub fn mark_text(input: &[u8], out: &mut Vec<u8>) {
 }
 
 /// A network file's network that keeps rules 1 to 13.
-fn read_alone(input: &[u8]) -> Result<network::Network, Refusal> {
+fn read_alone(input: &[u8]) -> Result<Box<network::Network>, Refusal> {
     let mut reader = Reader::new(input);
     let network = network::Network::read(&mut reader)?;
     reader.finish()?;
@@ -41,7 +50,8 @@ fn read_alone(input: &[u8]) -> Result<network::Network, Refusal> {
 
 /// What rules 14 to 16 leave of a network file alone.
 pub fn start(input: &[u8]) -> Result<Start, Refusal> {
-    Start::of(&read_alone(input)?).map(|(start, _)| start)
+    let network = read_alone(input)?;
+    Start::of(&network).map(|(start, _)| start)
 }
 
 /// A network file's network that keeps rules 1 to 18.

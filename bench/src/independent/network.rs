@@ -1,4 +1,5 @@
 //! A network as its file states it, with rules 5 to 9.
+use super::neighbours::Neighbours;
 use super::reader::{Reader, Record, Refusal, ELEMENT, HEAD, LINK};
 
 pub const ELEMENTS: usize = 64;
@@ -23,20 +24,24 @@ pub struct Network {
     pub fixed: u128,
     /// the links closed at the start, fixed ones among them
     pub closed: u128,
+    /// the starting configuration; in an accepted network, with the operable switches open
+    pub neighbours: Neighbours,
 }
 
 impl Network {
     /// The records of a network file up to its end record.
-    pub fn read(reader: &mut Reader) -> Result<Network, Refusal> {
+    pub fn read(reader: &mut Reader) -> Result<Box<Network>, Refusal> {
         let head = reader.record(HEAD)?;
         let [elements, links] = head.fields.map(usize::from);
         head.demand(5, (1..=ELEMENTS).contains(&elements) && links <= LINKS)?;
-        let mut network = Network::empty(elements, links);
+        let mut network = Box::new(Network::empty(elements, links));
         for element in 0..elements {
             network.put_element(element, reader.record(ELEMENT)?)?;
         }
+        let mut bit = 1;
         for link in 0..links {
-            network.put_link(link, reader.record(LINK)?)?;
+            network.put_link(link, bit, reader.record(LINK)?)?;
+            bit <<= 1;
         }
         reader.end()?;
         Ok(network)
@@ -53,6 +58,7 @@ impl Network {
             cost: [0; LINKS],
             fixed: 0,
             closed: 0,
+            neighbours: Neighbours::none(),
         }
     }
 
@@ -65,15 +71,18 @@ impl Network {
         Ok(())
     }
 
-    fn put_link(&mut self, link: usize, record: Record<4>) -> Result<(), Refusal> {
+    fn put_link(&mut self, link: usize, bit: u128, record: Record<4>) -> Result<(), Refusal> {
         let [a, b, form, cost] = record.fields;
         record.demand(7, a.max(b) < self.elements as u16 && a != b)?;
         record.demand(8, form <= 2)?;
         record.demand(9, (form == 0) == (cost == 0))?;
         self.ends[link] = (a as u8, b as u8);
         self.cost[link] = cost;
-        self.fixed |= ((form == 0) as u128) << link;
-        self.closed |= ((form != 1) as u128) << link;
+        self.fixed |= if form == 0 { bit } else { 0 };
+        if form != 1 {
+            self.closed |= bit;
+            self.neighbours.close((a as usize, b as usize));
+        }
         Ok(())
     }
 
@@ -86,8 +95,9 @@ impl Network {
         u64::MAX >> (ELEMENTS - self.elements)
     }
 
-    pub fn every_link(&self) -> u128 {
-        (1 << self.links) - 1
+    /// The links that aren't fixed.
+    pub fn switches(&self) -> u128 {
+        ((1 << self.links) - 1) & !self.fixed
     }
 
     pub fn load_of(&self, elements: u64) -> u64 {

@@ -1,8 +1,10 @@
 //! The planner's reply to a network file.
 use super::accepted::Accepted;
 use super::bits;
+use super::feeding::Feeding;
 use super::reader::{Refusal, END, PLAN_HEAD, STEP};
-use super::search::cheapest;
+use super::search::lightest;
+use super::weights::{self, Weights};
 
 #[derive(Clone, Copy, Debug, PartialEq)]
 pub struct Sums {
@@ -35,14 +37,21 @@ pub fn plan(input: &[u8]) -> Reply {
 
 /// A plan leaves every restorable element live, and no other one can be: a part with a sound source and a spoiled element has a fault too.
 fn plan_accepted(accepted: &Accepted) -> Reply {
-    let (network, start) = (&accepted.network, &accepted.start);
+    let start = &accepted.start;
     match cheapest(accepted) {
         None => Reply::None(sums(accepted, start.live)),
-        Some((cost, set)) => {
-            let plan = Plan { open: set & network.closed, close: set & !network.closed, cost };
-            Reply::Plan(plan, sums(accepted, start.restorable))
-        }
+        Some(plan) => Reply::Plan(plan, sums(accepted, start.restorable)),
     }
+}
+
+fn cheapest(accepted: &Accepted) -> Option<Plan> {
+    if accepted.start.waiting() == 0 {
+        return Some(Plan { open: 0, close: 0, cost: 0 });
+    }
+    let weights = Weights::of(accepted);
+    let least = lightest(&mut Feeding::new(accepted, weights.links()), &weights)?;
+    let (set, closed) = (weights::set(accepted, least), accepted.network.closed);
+    Some(Plan { open: set & closed, close: set & !closed, cost: weights::cost(least) })
 }
 
 fn sums(accepted: &Accepted, live: u64) -> Sums {

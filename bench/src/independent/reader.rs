@@ -14,7 +14,7 @@ pub struct Refusal {
 }
 
 pub struct Reader<'a> {
-    bytes: &'a [u8],
+    rest: &'a [u8],
     at: usize,
 }
 
@@ -28,29 +28,42 @@ pub fn word(bytes: &[u8], at: usize) -> u16 {
     u16::from_le_bytes([bytes[at], bytes[at + 1]])
 }
 
+/// A record's length and kind.
+fn front(kind: u16, length: usize) -> [u8; 4] {
+    (length as u32 | (kind as u32) << 16).to_le_bytes()
+}
+
 impl<'a> Reader<'a> {
     pub fn new(bytes: &'a [u8]) -> Self {
-        Reader { bytes, at: 0 }
+        Reader { rest: bytes, at: 0 }
     }
 
     /// The next record, which must be of that kind. A kind's length follows from its count of fields.
+    #[inline(always)]
     pub fn record<const FIELDS: usize>(&mut self, kind: u16) -> Result<Record<FIELDS>, Refusal> {
-        let (rest, length) = (&self.bytes[self.at..], 4 + 2 * FIELDS);
+        let (place, length) = (self.at, 4 + 2 * FIELDS);
+        match self.rest.split_at_checked(length) {
+            Some((record, rest)) if record[..4] == front(kind, length) => {
+                (self.rest, self.at) = (rest, place + length);
+                Ok(Record { fields: std::array::from_fn(|i| word(record, 4 + 2 * i)), place })
+            }
+            _ => self.refuse(self.broken(kind, length)),
+        }
+    }
+
+    /// The first of rules 1 to 4 that the next bytes break, where they are no record of that kind.
+    #[cold]
+    fn broken(&self, kind: u16, length: usize) -> u64 {
+        let rest = self.rest;
         if rest.len() < 4 {
-            return self.refuse(1);
+            1
+        } else if word(rest, 2) != kind {
+            2
+        } else if word(rest, 0) as usize != length {
+            3
+        } else {
+            4
         }
-        if word(rest, 2) != kind {
-            return self.refuse(2);
-        }
-        if word(rest, 0) as usize != length {
-            return self.refuse(3);
-        }
-        if rest.len() < length {
-            return self.refuse(4);
-        }
-        let place = self.at;
-        self.at += length;
-        Ok(Record { fields: std::array::from_fn(|i| word(rest, 4 + 2 * i)), place })
     }
 
     pub fn end(&mut self) -> Result<(), Refusal> {
@@ -59,19 +72,15 @@ impl<'a> Reader<'a> {
 
     /// Rule 13, behind the last end record.
     pub fn finish(&self) -> Result<(), Refusal> {
-        if self.at < self.bytes.len() {
+        if !self.rest.is_empty() {
             return self.refuse(13);
         }
         Ok(())
     }
 
-    /// What was read since an offset.
-    pub fn since(&self, from: usize) -> &'a [u8] {
-        &self.bytes[from..self.at]
-    }
-
-    pub fn at(&self) -> usize {
-        self.at
+    /// What is still unread.
+    pub fn rest(&self) -> &'a [u8] {
+        self.rest
     }
 
     fn refuse<T>(&self, rule: u64) -> Result<T, Refusal> {

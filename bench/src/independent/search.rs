@@ -2,139 +2,142 @@
 //!
 //! Only the last configuration needs a look. Openings come first and are in the dark; and a safe configuration stays safe with closed links
 //! left out, so each one on the way, which has fewer links closed than the last, is safe too.
-use super::accepted::{Accepted, SWITCHES};
+//!
+//! With all live nodes taken as one, the switches closed in the last configuration make a spanning tree of the nodes. The search grows it from
+//! the live nodes, always over the lightest switch that leads on: if nothing is overloaded on the way, that makes the lightest tree there is.
+use super::accepted::SWITCHES;
 use super::bits;
-use super::neighbours::Neighbours;
-use super::network::{Network, ELEMENTS};
+use super::feeding::{Feed, Feeding};
+use super::supply::Supply;
+use super::weights::Weights;
 
-const NODES: usize = 2 * SWITCHES;
-
-#[derive(Clone, Copy, Default)]
-struct Switch {
-    /// the nodes at its ends
-    a: u8,
-    b: u8,
-    ends: (usize, usize),
-    closed: bool,
-    cost: u64,
+/// The least weight of such a set. The feeding has its switches in the order of their weights, and feeds live nodes alone.
+pub fn lightest(feeding: &mut Feeding, weights: &Weights) -> Option<i64> {
+    let (stage, supply) = (Stage::first(feeding, weights), Supply::of(feeding));
+    if feeding.lumped.too_small != 0 || supply.falls_short(feeding, stage.leading(), stage.load) {
+        return None;
+    }
+    let mut search = Search { feeding, supply, weight: weights.closed, best: i64::MAX };
+    search.grow(stage);
+    (search.best < i64::MAX).then_some(search.best)
 }
 
-/// The parts of what is surely closed, over the parts at the ends of operable switches: their labels, and which labels have a sound source,
-/// a faulty element, a restorable element.
+struct Search<'a, 'b> {
+    feeding: &'a mut Feeding<'b>,
+    supply: Supply,
+    /// what each switch weighs when it is closed
+    weight: [i64; SWITCHES],
+    best: i64,
+}
+
+/// A tree grown so far.
 #[derive(Clone, Copy)]
-struct Joined {
-    label: [u8; NODES],
-    source: u32,
-    fault: u32,
-    need: u32,
+struct Stage {
+    /// the switches that aren't excluded
+    free: u16,
+    /// the switches with one end in the tree
+    cut: u16,
+    /// the nodes outside, and their load
+    waiting: u32,
+    load: i32,
+    /// no tree grown from this one weighs less: each node outside is joined over one of its switches
+    least: i64,
 }
 
-struct Search<'a> {
-    network: &'a Network,
-    /// the configuration of the switches decided so far, the others open
-    neighbours: Neighbours,
-    switches: [Switch; SWITCHES],
-    count: usize,
-    /// the sources with an operable switch in their part; no other part changes
-    sources: u64,
-    best: Option<(u64, u16)>,
-}
-
-/// The cost and the switches operated, as links.
-pub fn cheapest(accepted: &Accepted) -> Option<(u64, u128)> {
-    let (mut search, joined) = Search::prepare(accepted);
-    search.decide_from(0, joined, 0, 0);
-    let (cost, set) = search.best?;
-    let operated = bits(accepted.start.operable).enumerate().filter(|&(i, _)| set >> i & 1 == 1);
-    Some((cost, operated.fold(0, |links, (_, link)| links | 1 << link)))
-}
-
-impl Search<'_> {
-    fn prepare(accepted: &Accepted) -> (Search<'_>, Joined) {
-        let (network, start) = (&accepted.network, &accepted.start);
-        let mut neighbours = accepted.neighbours.clone();
-        bits(start.operable & network.closed).for_each(|link| neighbours.turn(network.ends(link)));
-        let mut nodes = Nodes { of: [u8::MAX; ELEMENTS], parts: [0; NODES], count: 0 };
-        let mut switches = [Switch::default(); SWITCHES];
-        for (switch, link) in switches.iter_mut().zip(bits(start.operable)) {
-            let ends = network.ends(link);
-            let (a, b) = (nodes.node(neighbours.part(ends.0)), nodes.node(neighbours.part(ends.1)));
-            *switch = Switch { a, b, ends, closed: network.closed >> link & 1 == 1, cost: network.cost[link] as u64 };
-        }
-        let joined = nodes.joined(network, start.restorable);
-        let sources = nodes.parts.iter().fold(0, |all, part| all | part & network.sound);
-        (Search { network, neighbours, switches, count: start.operable.count_ones() as usize, sources, best: None }, joined)
+impl Stage {
+    fn first(feeding: &Feeding, weights: &Weights) -> Stage {
+        let nodes = &feeding.nodes;
+        let free = nodes.usable;
+        let cut = bits(nodes.live as u128).fold(0, |cut, node| cut ^ nodes.at[node]);
+        let lightest = |node: usize| weights.closed[(nodes.at[node] & free).trailing_zeros() as usize];
+        let least = bits(nodes.waiting as u128).map(lightest).sum::<i64>();
+        let load = feeding.lumped.total.iter().sum();
+        Stage { free, cut, waiting: nodes.waiting, load, least: weights.all_open + least }
     }
 
-    /// Decides switch `i` and all behind it: operated first, so that of equal costs the first one found comes before the others.
-    fn decide_from(&mut self, i: usize, joined: Joined, set: u16, cost: u64) {
-        if self.best.is_some_and(|(least, _)| least <= cost) {
-            return;
+    /// The switches that lead from the tree to a node outside.
+    fn leading(&self) -> u16 {
+        self.free & self.cut
+    }
+}
+
+impl Search<'_, '_> {
+    /// Looks for a lighter tree; hands back whether none is lighter than the best one now even if nothing were overloaded.
+    fn grow(&mut self, mut stage: Stage) -> bool {
+        if stage.least >= self.best {
+            return true;
         }
-        if i == self.count {
-            if joined.need & !joined.source == 0 && self.within_capacity() {
-                self.best = Some((cost, set));
+        if stage.waiting == 0 {
+            self.best = stage.least;
+            return true;
+        }
+        let mut all = true;
+        loop {
+            let feed = self.feed_over(stage.leading().trailing_zeros() as usize, &stage);
+            if self.feeding.feed(feed) {
+                self.supply.hang(self.feeding, feed);
+                let done = self.grow(self.joined(&stage, feed));
+                self.supply.unhang(self.feeding, feed);
+                self.feeding.part(feed);
+                if done {
+                    return all;
+                }
             }
-            return;
-        }
-        let switch = self.switches[i];
-        for operate in [true, false] {
-            let (set, cost) = if operate { (set | 1 << i, cost + switch.cost) } else { (set, cost) };
-            if switch.closed == operate {
-                self.decide_from(i + 1, joined, set, cost);
-            } else if let Some(joined) = joined.join(switch.a, switch.b) {
-                self.neighbours.turn(switch.ends);
-                self.decide_from(i + 1, joined, set, cost);
-                self.neighbours.turn(switch.ends);
+            all = false;
+            if !self.exclude(&mut stage, feed) {
+                return false;
             }
         }
     }
 
-    fn within_capacity(&self) -> bool {
-        bits(self.sources as u128).all(|source| self.neighbours.within_capacity(self.network, source))
-    }
-}
-
-/// Numbers for the parts at the ends of operable switches. An element that is restorable and dark is in one of them: the path that joins it
-/// to a source leaves its part by an operable switch.
-struct Nodes {
-    /// by a part's lowest element
-    of: [u8; ELEMENTS],
-    parts: [u64; NODES],
-    count: u8,
-}
-
-impl Nodes {
-    fn node(&mut self, part: u64) -> u8 {
-        let lowest = part.trailing_zeros() as usize;
-        if self.of[lowest] == u8::MAX {
-            self.of[lowest] = self.count;
-            self.parts[self.count as usize] = part;
-            self.count += 1;
+    /// The feed of the waiting node at this switch from the other one.
+    fn feed_over(&self, switch: usize, stage: &Stage) -> Feed {
+        let [a, b] = self.feeding.nodes.switches[switch].nodes.map(usize::from);
+        if stage.waiting >> a & 1 == 1 {
+            Feed { from: b, to: a, switch }
+        } else {
+            Feed { from: a, to: b, switch }
         }
-        self.of[lowest]
     }
 
-    fn joined(&self, network: &Network, restorable: u64) -> Joined {
-        let having = |elements: u64| (0..NODES).fold(0, |set, node| set | ((self.parts[node] & elements != 0) as u32) << node);
-        Joined { label: std::array::from_fn(|node| node as u8), source: having(network.sound), fault: having(network.faulty), need: having(restorable) }
+    fn joined(&self, stage: &Stage, feed: Feed) -> Stage {
+        let at = self.feeding.nodes.at[feed.to];
+        let lightest = (at & stage.free).trailing_zeros() as usize;
+        Stage {
+            free: stage.free,
+            cut: stage.cut ^ at,
+            waiting: stage.waiting & !(1 << feed.to),
+            load: stage.load - self.feeding.lumped.total[feed.to],
+            least: stage.least + self.weight[feed.switch] - self.weight[lightest],
+        }
     }
-}
 
-impl Joined {
-    /// Two parts in one; `None` if that closes a loop, joins two sources or a fault and a source.
-    fn join(self, a: u8, b: u8) -> Option<Joined> {
-        let (x, y) = (self.label[a as usize], self.label[b as usize]);
-        if x == y {
-            return None;
+    /// Goes without a switch; hands back whether a lighter tree is still possible.
+    fn exclude(&self, stage: &mut Stage, feed: Feed) -> bool {
+        let at = self.feeding.nodes.at[feed.to];
+        let before = (at & stage.free).trailing_zeros() as usize;
+        stage.free &= !(1 << feed.switch);
+        if self.cut_off(stage, feed.to) {
+            return false;
         }
-        let both = 1u32 << x | 1 << y;
-        let sources = (self.source & both).count_ones();
-        if sources == 2 || sources == 1 && self.fault & both != 0 {
-            return None;
+        let after = (at & stage.free).trailing_zeros() as usize;
+        stage.least += self.weight[after] - self.weight[before];
+        stage.least < self.best && !self.supply.falls_short(self.feeding, stage.leading(), stage.load)
+    }
+
+    /// Whether no free switches join a node to the tree.
+    fn cut_off(&self, stage: &Stage, node: usize) -> bool {
+        let nodes = &self.feeding.nodes;
+        let (mut met, mut leading) = (1u32 << node, nodes.at[node] & stage.free);
+        while leading & stage.cut == 0 {
+            if leading == 0 {
+                return true;
+            }
+            let [a, b] = nodes.switches[leading.trailing_zeros() as usize].nodes;
+            let next = if met >> a & 1 == 1 { b } else { a };
+            met |= 1 << next;
+            leading ^= nodes.at[next as usize] & stage.free;
         }
-        let merge = |set: u32| if set & both != 0 { set & !both | 1 << x } else { set };
-        let label = self.label.map(|k| if k == y { x } else { k });
-        Some(Joined { label, source: merge(self.source), fault: merge(self.fault), need: merge(self.need) })
+        false
     }
 }

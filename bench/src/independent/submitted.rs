@@ -11,16 +11,20 @@ impl<'a> Submitted<'a> {
         let head = reader.record(PLAN_HEAD)?;
         let [steps] = head.fields;
         head.demand(10, steps <= 255)?;
-        let from = reader.at();
+        let behind = reader.rest();
         for _ in 0..steps {
             let step: Record<2> = reader.record(STEP)?;
             let [link, state] = step.fields;
             step.demand(11, (link as usize) < network.links)?;
             step.demand(12, state <= 1)?;
         }
-        let submitted = Submitted { steps: reader.since(from) };
+        let submitted = Submitted { steps: &behind[..8 * steps as usize] };
         reader.end()?;
         Ok(submitted)
+    }
+
+    pub fn is_empty(&self) -> bool {
+        self.steps.is_empty()
     }
 
     /// Link and state wanted of each step.

@@ -17,7 +17,7 @@ use Rattle.network_file.specs.NetworkFiles.{networkFile}
 use Rattle.network_file.specs.Runs as Runs
 use Rattle.network_file.specs.Runs.{reached}
 use Rattle.network_file.proofs.Sizes.{network-input-size}
-use Rattle.network_file.proofs.Followed.{network-followed}
+use Rattle.network_file.proofs.NetworkAlike.{network-followed}
 use Rattle.plan_file.specs.declared.plan.Plan.{Plan}
 use Rattle.plan_file.specs.Accepted.{WellFormedPlan}
 use Rattle.plan_file.proofs.Accepted.{plan-well-formed as read-well-formed}

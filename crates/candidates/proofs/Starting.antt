@@ -1,57 +1,47 @@
--- The search starts from the parts of the configuration whose operable switches are open, so what it lists is all candidates, and it fits.
+-- The search starts from the parts of the configuration whose operable switches are open: labels and holdings stand for them.
 -- Assumes nothing.
 use mathlib.Core.Path.{_≡_, refl, sym, ap, ap₂, _∙_}
-use mathlib.Core.Bool.{Bool, true, false, not, _&&_, or-self}
+use mathlib.Core.Bool.{Bool, true, false, _&&_}
 use mathlib.Core.List.{List}
-use Prim.Native.Nat.{ℕ, zero, suc, _+_, _-_, _^_, _<_, _≤_}
+use Prim.Native.Nat.{ℕ, _<_, _≤_}
 use native.Mathlib.Omega.{arith}
 use lib.Dec.{eqb}
 use lib.ListN.{length}
-use lib.Seq.{sets}
 use borrow.Author.Tests.{eqb-true}
 use Rattle.network.specs.declared.Network.{Network}
 use Rattle.network.specs.Accepted.{WellFormed}
 use Rattle.feeding.specs.Acceptance.{Starts}
 use Rattle.feeding.specs.Below.{bits, gate, sumTo}
-use Rattle.feeding.specs.Networks.{Net, Grid, netOf, gridOf, at, isIn}
+use Rattle.feeding.specs.Networks.{Grid, netOf, gridOf, at, isIn}
 use Rattle.feeding.specs.Parts.{Config, closedIn, label, sound?}
-use Rattle.feeding.specs.Restoration.{operable?, operables, restorable?}
+use Rattle.feeding.specs.Restoration.{restorable?}
 use Rattle.feeding.proofs.Below.{eqb-comm, and-left, anyTo-ext}
 use Rattle.feeding.proofs.Decided.{Kept, safe-kept}
 use Rattle.feeding.proofs.Labels.{label-of-label}
 use Rattle.feeding.proofs.Lows.{length-tabulate, at-tabulate}
 use Rattle.feeding.proofs.Sums.{sumTo-ext}
-use Rattle.feeding.proofs.Tests.{sound-flag}
 use Rattle.feeding.proofs.Views.{formed-net}
 use Rattle.parts.specs.declared.Parts.{Parts}
 use Rattle.parts.specs.Labelling.{Falls, rootOf, partsOf}
 use Rattle.parts.proofs.Grids.{label-le, label-long}
 use Rattle.parts.proofs.Roots.{root-own, root-up}
-use Rattle.sets.specs.Sets.{Reach, PartsReach, oneOf, butNot, partHas}
-use Rattle.restoration.proofs.Reach.{bits-long, bits-reach, parts-reach}
-use Rattle.restoration.proofs.Sets.{set-at, fits, closed-at}
+use Rattle.sets.specs.Sets.{PartsReach, oneOf, partHas}
+use Rattle.restoration.proofs.Reach.{parts-reach}
+use Rattle.restoration.proofs.Sets.{set-at, fits}
 use Rattle.restoration.proofs.Spreads.{label-is}
-use Rattle.planning.specs.Candidates.{radial?, candidate?, waitsFor}
-use Rattle.planning.specs.Sets.{setsFrom, switchesOf}
-use Rattle.planning.proofs.Carried.{Carried, partHas?, partHolds, waitingParts}
-use Rattle.planning.proofs.Listing.{based, listed-all}
-use Rattle.planning.proofs.Radial.{radial-opened}
-use Rattle.planning.proofs.Scans.{passing-count, sets-count}
+use Rattle.carrying.specs.Candidates.{radial?, based, openedBy}
+use Rattle.carrying.specs.Holding.{waitsFor}
+use Rattle.carrying.proofs.Carried.{Carried, partHas?, partHolds, waitingParts}
+use Rattle.carrying.proofs.Radial.{radial-opened}
 use Rattle.holdings.specs.Holdings.{waitingAt, holdingsOf}
-use Rattle.switches.specs.declared.Switches.{Switches}
-use Rattle.switches.specs.Switches.{switchList}
-use Rattle.switches.proofs.States as States
-use Rattle.search.specs.Searching.{switching, listedIn, Searches}
-use Rattle.candidates.specs.Candidates.{candidatesOf}
+use Rattle.candidates.specs.Candidates.{openedIn, soundIn}
+use Rattle.candidates.proofs.Arrays.{opened-at, sources-at}
 
--- what the calls return, before the search is started
-pub record Started (n : Network) (operable closed base : List ℕ) (parts : Parts) (sound faulty restorable live fault need holds : List ℕ) (total : ℕ)
-    : Type 0 where
-  pub operable-is : operable ≡ bits 96 (n .links) (operable? (netOf n))
-  pub closed-is : closed ≡ bits 96 (n .links) (oneOf (n .form) 0 2)
-  pub base-is : base ≡ bits 96 (n .links) (butNot closed operable)
+-- what the calls return that the start is made of
+pub record Gathered (n : Network) (base : List ℕ) (parts : Parts) (sound faulty restorable live fault need holds : List ℕ) (total : ℕ) : Type 0 where
+  pub base-is : base ≡ openedIn n
   pub parts-is : parts ≡ partsOf (n .from) (n .to) base (n .links)
-  pub sound-is : sound ≡ bits 96 (n .elements) (oneOf (n .flags) 1 1)
+  pub sound-is : sound ≡ soundIn n
   pub faulty-is : faulty ≡ bits 96 (n .elements) (oneOf (n .flags) 2 3)
   pub restorable-is : restorable ≡ bits 96 (n .elements) (restorable? (netOf n))
   pub live-is : live ≡ bits 96 (n .elements) (partHas (parts .label) sound (n .elements))
@@ -60,29 +50,25 @@ pub record Started (n : Network) (operable closed base : List ℕ) (parts : Part
   pub holds-is : holds ≡ holdingsOf live fault need
   pub total-is : total ≡ sumTo (n .elements) (waitingAt (parts .label) holds)
 
-pub started : (n : Network) {operable closed base : List ℕ} {parts : Parts} {sound faulty restorable live fault need holds : List ℕ} {total : ℕ}
-    → operable ≡ bits 96 (n .links) (operable? (netOf n)) → closed ≡ bits 96 (n .links) (oneOf (n .form) 0 2)
-    → base ≡ bits 96 (n .links) (butNot closed operable) → parts ≡ partsOf (n .from) (n .to) base (n .links)
-    → sound ≡ bits 96 (n .elements) (oneOf (n .flags) 1 1) → faulty ≡ bits 96 (n .elements) (oneOf (n .flags) 2 3)
-    → restorable ≡ bits 96 (n .elements) (restorable? (netOf n)) → live ≡ bits 96 (n .elements) (partHas (parts .label) sound (n .elements))
-    → fault ≡ bits 96 (n .elements) (partHas (parts .label) faulty (n .elements))
+pub gathered : (n : Network) {base : List ℕ} {parts : Parts} {sound faulty restorable live fault need holds : List ℕ} {total : ℕ}
+    → base ≡ openedIn n → parts ≡ partsOf (n .from) (n .to) base (n .links) → sound ≡ soundIn n
+    → faulty ≡ bits 96 (n .elements) (oneOf (n .flags) 2 3) → restorable ≡ bits 96 (n .elements) (restorable? (netOf n))
+    → live ≡ bits 96 (n .elements) (partHas (parts .label) sound (n .elements)) → fault ≡ bits 96 (n .elements) (partHas (parts .label) faulty (n .elements))
     → need ≡ bits 96 (n .elements) (partHas (parts .label) restorable (n .elements)) → holds ≡ holdingsOf live fault need
     → total ≡ sumTo (n .elements) (waitingAt (parts .label) holds)
-    → Started n operable closed base parts sound faulty restorable live fault need holds total
-started n a b c d e f g h i j k l =
+    → Gathered n base parts sound faulty restorable live fault need holds total
+gathered n a b c d e f g h i j =
     record {
-      operable-is = a;
-      closed-is = b;
-      base-is = c;
-      parts-is = d;
-      sound-is = e;
-      faulty-is = f;
-      restorable-is = g;
-      live-is = h;
-      fault-is = i;
-      need-is = j;
-      holds-is = k;
-      total-is = l;
+      base-is = a;
+      parts-is = b;
+      sound-is = c;
+      faulty-is = d;
+      restorable-is = e;
+      live-is = f;
+      fault-is = g;
+      need-is = h;
+      holds-is = i;
+      total-is = j;
     }
 
 -- ---- what the calls ask
@@ -92,15 +78,11 @@ unfolding holdingsOf
 holdings-long live fault need = length-tabulate 64 _
 
 module _ (n : Network) (w : WellFormed n) where
-  -- a set of links, of `except`
-  pub links-reach : (xs : List ℕ) (f : ℕ → Bool) → xs ≡ bits 96 (n .links) f → Reach xs (n .links)
-  links-reach xs f e = bits-reach xs (n .links) (n .links) f (w .links-fit) e
-
   -- a set of elements, of `spread`
-  pub spread-reach : (base : List ℕ) (parts : Parts) (has : List ℕ) (f : ℕ → Bool) → parts ≡ partsOf (n .from) (n .to) base (n .links)
-      → has ≡ bits 96 (n .elements) f → PartsReach (parts .label) has (n .elements)
-  spread-reach base parts has f p e =
-      parts-reach (n .elements) (n .links) (n .from) (n .to) base parts has (w .elements-fit) p (omega (arith, w .elements-fit, bits-long has (n .elements) f e))
+  pub spread-reach : (base : List ℕ) (parts : Parts) (has : List ℕ) → parts ≡ partsOf (n .from) (n .to) base (n .links) → length has ≡ 96
+      → PartsReach (parts .label) has (n .elements)
+  spread-reach base parts has p e =
+      parts-reach (n .elements) (n .links) (n .from) (n .to) base parts has (w .elements-fit) p (omega (arith, w .elements-fit))
 
   -- labels lent as a slice
   pub label-counted : (base : List ℕ) (parts : Parts) → parts ≡ partsOf (n .from) (n .to) base (n .links) → 64 ≡ length (parts .label)
@@ -121,27 +103,23 @@ safe-radial : (g : Grid) (c : Config) → Kept g c → radial? g c ≡ true
 unfolding radial?
 safe-radial g c k = rw (k .tree, k .pair, k .fault)
 
-module _ (n : Network) (w : WellFormed n) (starts : Starts (netOf n)) {operable closed base : List ℕ} {parts : Parts}
+module _ (n : Network) (w : WellFormed n) (starts : Starts (netOf n)) {base : List ℕ} {parts : Parts}
     {sound faulty restorable live fault need holds : List ℕ} {total : ℕ}
-    (s : Started n operable closed base parts sound faulty restorable live fault need holds total) where
-  -- the states from which the search starts
+    (s : Gathered n base parts sound faulty restorable live fault need holds total) where
   base-at : (l : ℕ) → l < n .links → closedIn base l ≡ based (netOf n) l
-  unfolding based butNot
-  base-at l k =
-      set-at n w (n .links) _ base (w .links-fit) (s .base-is) l k
-      ∙ ap₂ (λ (x y : Bool). x && not y) (closed-at n w closed (s .closed-is) l k) (set-at n w (n .links) _ operable (w .links-fit) (s .operable-is) l k)
+  base-at l k = ap (λ (xs : List ℕ). isIn xs l) (s .base-is) ∙ opened-at n w l k
 
-  label-at : (e : ℕ) → e < n .elements → at (parts .label) e ≡ label (netOf n .grid) (based (netOf n)) e
+  pub label-at : (e : ℕ) → e < n .elements → at (parts .label) e ≡ label (netOf n .grid) (based (netOf n)) e
   unfolding netOf
   label-at e k =
       ap (λ (p : Parts). at (p .label) e) (s .parts-is)
       ∙ label-is (n .elements) (n .links) (n .load) (n .capacity) (n .flags) (n .from) (n .to) base (based (netOf n)) (w .elements-fit)
       (λ l kl. (w .from-in l kl, w .to-in l kl)) base-at e k
 
-  low : (e : ℕ) → at (parts .label) e ≤ e
+  pub low : (e : ℕ) → at (parts .label) e ≤ e
   low e = rw (s .parts-is) (label-le (n .from) (n .to) base (n .links) e)
 
-  long : length (parts .label) ≡ 64
+  pub long : length (parts .label) ≡ 64
   long = rw (s .parts-is) (label-long (n .from) (n .to) base (n .links))
 
   falls : Falls (parts .label)
@@ -166,9 +144,8 @@ module _ (n : Network) (w : WellFormed n) (starts : Starts (netOf n)) {operable 
       ∙ anyTo-ext (n .elements) _ _ (λ y ky.
       ap₂ _&&_ (is y ky) (ap₂ eqb (label-at x k ∙ own) (label-at y ky) ∙ eqb-comm x (label (netOf n .grid) (based (netOf n)) y)))
 
-  sound-at : (y : ℕ) → y < n .elements → isIn sound y ≡ sound? (netOf n .grid) y
-  unfolding sound? netOf gridOf oneOf
-  sound-at y k = set-at n w (n .elements) _ sound (fits n w) (s .sound-is) y k ∙ or-self (eqb (at (n .flags) y) 1) ∙ sound-flag (at (n .flags) y)
+  pub sound-at : (y : ℕ) → y < n .elements → isIn sound y ≡ sound? (netOf n .grid) y
+  sound-at y k = ap (λ (xs : List ℕ). isIn xs y) (s .sound-is) ∙ sources-at n w y k
 
   faulty-at : (y : ℕ) → y < n .elements → isIn faulty y ≡ netOf n .grid .faulty y
   unfolding netOf gridOf oneOf
@@ -199,8 +176,8 @@ module _ (n : Network) (w : WellFormed n) (starts : Starts (netOf n)) {operable 
       go x k false t = rw (label-at x k, t)
 
   -- opening switches of a safe start leaves it radial
-  radial : radial? (netOf n .grid) (based (netOf n)) ≡ true
-  unfolding based
+  pub radial : radial? (netOf n .grid) (based (netOf n)) ≡ true
+  unfolding openedBy
   radial =
       radial-opened (netOf n .grid) (formed-net n w) (netOf n .startClosed) (based (netOf n)) (λ l h. and-left (netOf n .startClosed l) _ h)
       (safe-radial (netOf n .grid) (netOf n .startClosed) (safe-kept (netOf n .grid) (formed-net n w) (netOf n .startClosed) (starts .safe)))
@@ -218,80 +195,3 @@ module _ (n : Network) (w : WellFormed n) (starts : Starts (netOf n)) {operable 
     radial = radial;
     counted = omega (arith, total-at);
   }
-
--- ---- the switches that are searched
-
-power-fits : (d m : ℕ) → d + m ≡ 12 → 2 ^ m ≤ 4096
-power-fits zero m h = let e : m ≡ 12 = omega arith in rw e (omega arith)
-power-fits (suc d) m h = omega (arith, power-fits d (suc m) (omega arith))
-
--- no more candidates than sets of at most 12 switches
-pub candidates-fit : (net : Net) → Starts net → length (candidatesOf net) ≤ 4096
-unfolding candidatesOf
-candidates-fit net starts =
-    omega (
-      arith,
-      passing-count (λ s. candidate? net (switchesOf net s)) (setsFrom (length (operables net)) 0),
-      sets-count (length (operables net)) 0,
-      power-fits (12 - length (operables net)) (length (operables net)) (omega (arith, starts .few)),
-    )
-
-module _ (n : Network) (w : WellFormed n) (starts : Starts (netOf n)) (sw : Switches) (sw-is : sw ≡ switchList n (operables (netOf n))) where
-  few : length (operables (netOf n)) ≤ 16
-  few = omega (arith, starts .few)
-
-  from-at : (i : ℕ) → i < length (operables (netOf n)) → at (sw .from) i ≡ netOf n .grid .endA (at (operables (netOf n)) i)
-  from-at i k = ap (λ (x : Switches). at (x .from) i) sw-is ∙ States.from-at n w few i k
-
-  to-at : (i : ℕ) → i < length (operables (netOf n)) → at (sw .to) i ≡ netOf n .grid .endB (at (operables (netOf n)) i)
-  to-at i k = ap (λ (x : Switches). at (x .to) i) sw-is ∙ States.to-at n w few i k
-
-  shut-at : (i : ℕ) → i < length (operables (netOf n)) → isIn (sw .closed) i ≡ netOf n .startClosed (at (operables (netOf n)) i)
-  shut-at i k = ap (λ (x : Switches). isIn (x .closed) i) sw-is ∙ States.closed-at n w few i k
-
-  count-is : sw .count ≡ length (operables (netOf n))
-  count-is = ap (λ (x : Switches). x .count) sw-is ∙ States.count-is n w
-
-  module _ {operable closed base : List ℕ} {parts : Parts} {sound faulty restorable live fault need holds : List ℕ} {total : ℕ}
-      (s : Started n operable closed base parts sound faulty restorable live fault need holds total) where
-    -- what the search asks
-    pub starting-searches : Searches (sw .from) (sw .to) (sw .closed) (parts .label) holds (sw .count) 0 0 0
-    starting-searches =
-        let carried = starting-carried n w starts s in
-        record {
-          fit = omega (arith, count-is, starts .few);
-          reached = omega arith;
-          from-long = ap (λ (x : Switches). length (x .from)) sw-is ∙ States.from-long n w;
-          to-long = ap (λ (x : Switches). length (x .to)) sw-is ∙ States.to-long n w;
-          closed-long = ap (λ (x : Switches). length (x .closed)) sw-is ∙ States.closed-long n w;
-          parent-long = carried .parent-long;
-          holds-long = carried .holds-long;
-          from-in = λ j k. omega (arith, ap (λ (x : Switches). at (x .from) j) sw-is, States.from-below n w j);
-          to-in = λ j k. omega (arith, ap (λ (x : Switches). at (x .to) j) sw-is, States.to-below n w j);
-          falls = carried .falls;
-          served-few = omega arith;
-          set-in = omega arith;
-        }
-
-    -- the theorem: the search lists the candidates
-    pub all-listed : listedIn (sw .from) (sw .to) (sw .closed) total (sw .count) 0 0 0 (parts .label) holds ≡ candidatesOf (netOf n)
-    unfolding listedIn candidatesOf switching netOf gridOf
-    all-listed =
-        let e : sw .count - 0 ≡ length (operables (netOf n)) = omega (arith, count-is) in
-        rw e
-        (listed-all (netOf n) (formed-net n w) (switching (sw .from) (sw .to) (sw .closed)) from-at to-at shut-at total (parts .label) holds
-        (starting-carried n w starts s))
-
-    listed-count : 0 + length (listedIn (sw .from) (sw .to) (sw .closed) total (sw .count) 0 0 0 (parts .label) holds) ≡ length (candidatesOf (netOf n))
-    listed-count = omega (arith, ap length all-listed)
-
-    -- there is room for them
-    pub listed-fits : 0 + length (listedIn (sw .from) (sw .to) (sw .closed) total (sw .count) 0 0 0 (parts .label) holds) ≤ 4096
-    listed-fits = omega (arith, listed-count, candidates-fit (netOf n) starts)
-
-    -- what `list_candidates` returns and leaves
-    pub listed-candidates : (found : List ℕ) {r : ℕ} {found′ : List ℕ}
-        → r ≡ 0 + length (listedIn (sw .from) (sw .to) (sw .closed) total (sw .count) 0 0 0 (parts .label) holds)
-        → found′ ≡ sets found 0 (listedIn (sw .from) (sw .to) (sw .closed) total (sw .count) 0 0 0 (parts .label) holds)
-        → (r ≡ length (candidatesOf (netOf n))) × (found′ ≡ sets found 0 (candidatesOf (netOf n)))
-    listed-candidates found p q = (p ∙ listed-count, q ∙ ap (sets found 0) all-listed)

@@ -1,4 +1,3 @@
-pub mod Grids
 pub mod Sources
 pub mod Turns
 pub mod Waiting

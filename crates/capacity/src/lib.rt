@@ -1,10 +1,9 @@
-// Whether every live element stays within its capacity: a walk away from each sound source that stops at the first element that does not.
+// Whether every element that a source feeds stays within its capacity: a walk away from it that stops at the first element that does not.
 ghost use mathlib.Core.Path.{_≡_};
-ghost use mathlib.Core.Bool.{not};
 ghost use Prim.Native.Nat.{_+_, _<_, _≤_, _*_, min};
-ghost use lib.Dec.{ltb};
 ghost use Rattle.feeding.specs.Parts.{closedIn};
-ghost use Rattle.loads.specs.Walks.{nearAt, overPlace};
+ghost use Rattle.feeding.specs.Loads.{withinFrom?};
+ghost use Rattle.loads.specs.Walks.{nearAt};
 ghost use Rattle.packing.specs.Packing.{farOf, PackedLent, packedGrid};
 ghost use Rattle.capacity.specs.Within.{overloaded, withinAt, endWithin, past};
 
@@ -112,40 +111,35 @@ fn link_within<'a>(
     )
 }
 
-// Whether the load at every live element is within its capacity: a walk from each sound source.
-pub fn all_within<'a>(
+// Whether every element that is fed from the sound source s stays within its capacity: one walk.
+pub fn within_from<'a>(
     chain: &'a [u8; 448],
     closed: &'a [u8; 96],
     rating: &'a [u32; 128],
-    sound: &'a [u8; 96],
     elements: usize,
     links: usize,
+    s: usize,
 ) -> bool
     requires { ⌜ PackedLent (now chain) (now closed) (now rating) elements links ⌝ }
-    requires { ⌜ elements ≤ 64 ⌝ }
-    ensures { λ r. ⌜ r ≡ not (ltb (overPlace (packedGrid elements links (now (chain .entry)) (now (rating .entry))) (closedIn (now (closed .entry))) (now (sound .entry))) elements) ⌝ }
+    requires { ⌜ (elements ≤ 64) × (s < elements) ⌝ }
+    ensures { λ r. ⌜ r ≡ withinFrom? (packedGrid elements links (now (chain .entry)) (now (rating .entry))) (closedIn (now (closed .entry))) s ⌝ }
 {
     let ratings: &[u32] = rating;
-    let mut s: usize = 0;
-    while s < elements {
-        if sound[s] == 1 {
-            let c = element_within(
-                chain,
-                closed,
-                rating,
-                elements,
-                links,
-                s,
-                links,
-                2 * elements,
-                ratings[64 + s] as u64,
-                0,
-            );
-            if c == OVERLOADED {
-                return false;
-            }
-        }
-        s += 1;
+    let most = ratings[64 + s] as u64;
+    let c = element_within(
+        chain,
+        closed,
+        rating,
+        elements,
+        links,
+        s,
+        links,
+        2 * elements,
+        most,
+        0,
+    );
+    if c == OVERLOADED {
+        return false;
     }
     true
 }

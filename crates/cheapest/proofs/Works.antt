@@ -1,13 +1,13 @@
 -- The scan of the sets found gives the first cheapest of all that work: only candidates can, and states as numbers are their last configurations.
 -- Assumes nothing.
 use mathlib.Core.Path.{_≡_, refl, sym, ap, ap₂, _∙_, subst}
-use mathlib.Core.Bool.{Bool, true, false, not, _&&_, and-true, or-self, false≢true}
+use mathlib.Core.Bool.{Bool, true, false, not, _&&_, and-true, false≢true}
 use mathlib.Core.List.{List}
-use Prim.Native.Nat.{ℕ, _<_, _≤_}
+use Prim.Native.Nat.{ℕ, _^_, _<_, _≤_}
 use native.Mathlib.Omega.{arith}
-use lib.Dec.{eqb, ltb}
-use lib.ListN.{length, take, replicate, length-replicate}
-use lib.Seq.{sets, sets-eq, take-at}
+use lib.Dec.{ltb}
+use lib.ListN.{length}
+use native.Mathlib.Nat.{pow-le-pow-right}
 use borrow.Author.Tests.{not-true}
 use Rattle.network.specs.declared.Network.{Network}
 use Rattle.network.specs.Accepted.{WellFormed}
@@ -20,7 +20,6 @@ use Rattle.feeding.specs.Plans.{flip, setCost}
 use Rattle.feeding.specs.Restoration.{operable?, operables}
 use Rattle.feeding.proofs.Below.{and-left, and-right}
 use Rattle.feeding.proofs.States.{over-same}
-use Rattle.feeding.proofs.Tests.{sound-flag}
 use Rattle.feeding.proofs.Views.{formed-net}
 use Rattle.loads.proofs.Same.{head-length, next-length, far-length}
 use Rattle.safety.proofs.Networks.{checked}
@@ -30,20 +29,22 @@ use Rattle.loads.specs.Walks.{walkGrid}
 use Rattle.sets.specs.Sets.{oneOf, butNot, members}
 use Rattle.safety.specs.Checks.{Checked}
 use Rattle.restoration.proofs.Reach.{bits-long}
-use Rattle.restoration.proofs.Sets.{set-at, closed-at, fits}
 use Rattle.planning.specs.declared.Best.{Best}
-use Rattle.planning.specs.Candidates.{radial?, candidate?}
+use Rattle.carrying.specs.Candidates.{radial?, passes?, candidate?, openedBy}
 use Rattle.planning.specs.Choosing.{works?}
-use Rattle.planning.specs.Sets.{setsFrom, none, scan, switchesOf, cheapestSet}
-use Rattle.planning.proofs.Radial.{radial-out}
-use Rattle.planning.proofs.Scans.{scan-passing, scan-ext, works-candidate}
+use Rattle.planning.specs.Sets.{setsFrom, none, keep, scan, priceOf, switchesOf, cheapestBy, cheapestSet}
+use Rattle.carrying.proofs.Radial.{radial-out}
+use Rattle.planning.proofs.Scans.{scan-tested, scan-ext}
+use Rattle.planning.proofs.Cheapest.{cheapest-below}
 use Rattle.switches.specs.declared.Switches.{Switches}
-use Rattle.switches.specs.Switches.{SwitchReach, switchList}
+use Rattle.switches.specs.Switches.{SwitchReach, switchList, withSet}
 use Rattle.switches.proofs.States.{length-states, members-operables, operable-in, count-is, link-at, link-reach, states-flipped, price-set}
-use Rattle.candidates.specs.Candidates.{candidatesOf}
-use Rattle.candidates.proofs.Starting.{candidates-fit}
-use Rattle.packing.specs.Packing.{packedEnds, packedRating, headOf, nextOf, farOf, loadOf, capacityOf, packedGrid}
-use Rattle.capacity.proofs.Grids.{within-same}
+use Rattle.carrying.specs.Supply.{supplied?}
+use Rattle.carrying.proofs.Works.{supplied-works}
+use Rattle.candidates.specs.Candidates.{asksOf, candidatesOf, suppliedCandidate?, openedIn, soundIn, fittingIn, Walked}
+use Rattle.candidates.proofs.Arrays.{opened-long, opened-at, opened-off, sources-at}
+use Rattle.packing.specs.Packing.{packedEnds, packedRating, headOf, nextOf, farOf, loadOf, capacityOf}
+use Rattle.safety.proofs.Steps.{over-lowest-is}
 use Rattle.packing.proofs.Packed.{packed-head, packed-next, packed-far, packed-load, packed-capacity}
 use Rattle.spurs.specs.declared.Lumped.{Lumped}
 use Rattle.lumping.specs.Layers.{closableIn, closableEnds, lumpedLayers}
@@ -51,31 +52,14 @@ use Rattle.spurs.proofs.Spur.{loaded}
 use Rattle.lumping.proofs.Layers as Layers
 use Rattle.lumping.proofs.Turns.{layers-long}
 use Rattle.lumping.proofs.Layers.{Layered, set-closable}
-use Rattle.cheapest.specs.Scanning.{Scans, statesIn, priceIn, fitsIn}
-
--- ---- lists
-
--- the sets found are the front of the list
-pub found-front : (found vs : List ℕ) (k : ℕ) → found ≡ sets (replicate 4096 0) 0 vs → k ≡ length vs → length vs ≤ 4096 → take k found ≡ vs
-found-front found vs k e c fit =
-    ap (take k) (e ∙ sets-eq vs (replicate 4096 0) 0 (omega (arith, length-replicate {A = ℕ} 4096 0)))
-    ∙ take-at vs _ k (sym c)
-
-pub states-long : (base link closed : List ℕ) (count s : ℕ) → length (statesIn base link closed count s) ≡ length base
-unfolding statesIn
-states-long base link closed count s = length-states (at link) (at closed) count s base
 
 -- what the calls return, before the scan
-pub record Gathered (n : Network) (operable : List ℕ) (sw : Switches) (found : List ℕ) (k : ℕ) (start base sound : List ℕ) (layers : ℕ)
+pub record Gathered (n : Network) (sw : Switches) (base sound : List ℕ) (layers : ℕ)
     (lumped : Lumped) (chain rating : List ℕ) : Type 0 where
-  pub operable-is : operable ≡ bits 96 (n .links) (operable? (netOf n))
   pub switches-are : sw ≡ switchList n (operables (netOf n))
   pub reach : SwitchReach (sw .link) (sw .count)
-  pub found-is : found ≡ sets (replicate 4096 0) 0 (candidatesOf (netOf n))
-  pub count-is : k ≡ length (candidatesOf (netOf n))
-  pub start-is : start ≡ bits 96 (n .links) (oneOf (n .form) 0 2)
-  pub base-is : base ≡ bits 96 (n .links) (butNot start operable)
-  pub sound-is : sound ≡ bits 96 (n .elements) (oneOf (n .flags) 1 1)
+  pub base-is : base ≡ openedIn n
+  pub sound-is : sound ≡ soundIn n
   pub lumped-is : lumped ≡ lumpedLayers n (sw .link) (sw .count) sound (record { base = base; load = n .load }) layers
   pub chain-is : chain ≡ packedEnds (closableEnds n (sw .link) (sw .count) (lumped .base))
   pub rating-is : rating ≡ packedRating (lumped .load) (n .capacity)
@@ -101,43 +85,43 @@ module _ (n : Network) (w : WellFormed n) {operable : List ℕ} (operable-is : o
   unfolding switchList
   switches-reach starts e = rw (switches-are e) (link-reach n w (omega (arith, starts .few)))
 
-  pub gathered : {sw : Switches} {found : List ℕ} {k : ℕ} {start base sound : List ℕ} {layers : ℕ} {lumped : Lumped} {chain rating : List ℕ}
-      → Starts (netOf n) → sw ≡ switchList n (members operable (n .links)) → (k ≡ length (candidatesOf (netOf n))) × (found ≡ sets (replicate 4096 0) 0 (candidatesOf (netOf n)))
+  -- the links that are closed at the start, without the switches
+  pub based-on : {start base : List ℕ} → start ≡ bits 96 (n .links) (oneOf (n .form) 0 2) → base ≡ bits 96 (n .links) (butNot start operable) → base ≡ openedIn n
+  unfolding openedIn
+  based-on c b = b ∙ ap₂ (λ (x y : List ℕ). bits 96 (n .links) (butNot x y)) c operable-is
+
+  pub gathered : {sw : Switches} {start base sound : List ℕ} {layers : ℕ} {lumped : Lumped} {chain rating : List ℕ}
+      → Starts (netOf n) → sw ≡ switchList n (members operable (n .links))
       → start ≡ bits 96 (n .links) (oneOf (n .form) 0 2) → base ≡ bits 96 (n .links) (butNot start operable)
       → sound ≡ bits 96 (n .elements) (oneOf (n .flags) 1 1)
       → lumped ≡ lumpedLayers n (sw .link) (sw .count) sound (record { base = base; load = n .load }) layers
       → chain ≡ packedEnds (closableEnds n (sw .link) (sw .count) (lumped .base))
       → rating ≡ packedRating (lumped .load) (n .capacity)
-      → Gathered n operable sw found k start base sound layers lumped chain rating
-  gathered starts s f c b m u a o =
+      → Gathered n sw base sound layers lumped chain rating
+  unfolding soundIn
+  gathered starts s c b m u a o =
       record {
-        operable-is = operable-is;
         switches-are = switches-are s;
         reach = switches-reach starts s;
-        found-is = f .1;
-        count-is = f .0;
-        start-is = c;
-        base-is = b;
+        base-is = based-on c b;
         sound-is = m;
         lumped-is = u;
         chain-is = a;
         rating-is = o;
       }
 
-module _ (n : Network) (w : WellFormed n) (starts : Starts (netOf n)) {operable : List ℕ} {sw : Switches} {found : List ℕ} {k : ℕ}
-    {start base sound : List ℕ} {layers : ℕ} {lumped : Lumped} {chain rating : List ℕ}
-    (g : Gathered n operable sw found k start base sound layers lumped chain rating) where
+module _ (n : Network) (w : WellFormed n) (starts : Starts (netOf n)) {sw : Switches}
+    {base sound : List ℕ} {layers : ℕ} {lumped : Lumped} {chain rating : List ℕ}
+    (g : Gathered n sw base sound layers lumped chain rating) where
   few : length (operables (netOf n)) ≤ 16
   few = omega (arith, starts .few)
 
   base-long : length base ≡ 96
-  base-long = bits-long base (n .links) _ (g .base-is)
+  base-long = ap length (g .base-is) ∙ opened-long n w
 
   base-is : (l : ℕ) → l < n .links → isIn base l ≡ (netOf n .startClosed l && not (operable? (netOf n) l))
-  unfolding butNot
-  base-is l h =
-      set-at n w (n .links) _ base (w .links-fit) (g .base-is) l h
-      ∙ ap₂ (λ (x y : Bool). x && not y) (closed-at n w start (g .start-is) l h) (set-at n w (n .links) _ operable (w .links-fit) (g .operable-is) l h)
+  unfolding openedBy
+  base-is l h = ap (λ (xs : List ℕ). isIn xs l) (g .base-is) ∙ opened-at n w l h
 
   -- the links that are not operable are in `base` as they are at the start
   base-at : (l : ℕ) → l < n .links → operable? (netOf n) l ≡ false → isIn base l ≡ netOf n .startClosed l
@@ -157,20 +141,16 @@ module _ (n : Network) (w : WellFormed n) (starts : Starts (netOf n)) {operable 
 
   -- the states that a set leaves are its last configuration
   states-at : (s l : ℕ) → l < n .links
-      → closedIn (statesIn base (sw .link) (sw .closed) (sw .count) s) l ≡ flip (netOf n .startClosed) (switchesOf (netOf n) s) l
-  unfolding statesIn switchList
+      → closedIn (withSet (at (sw .link)) (at (sw .closed)) (sw .count) s base) l ≡ flip (netOf n .startClosed) (switchesOf (netOf n) s) l
+  unfolding switchList
   states-at s l h = rw (g .switches-are) (states-flipped n w few base base-long base-at s l h)
 
-  price-at : (s : ℕ) → priceIn (sw .price) (sw .count) s ≡ setCost (netOf n) (switchesOf (netOf n) s)
-  unfolding priceIn switchList
+  price-at : (s : ℕ) → priceOf (at (sw .price)) (sw .count) s ≡ setCost (netOf n) (switchesOf (netOf n) s)
+  unfolding switchList
   price-at s = rw (g .switches-are) (price-set n w few s)
 
-  front : take k found ≡ candidatesOf (netOf n)
-  front = found-front found (candidatesOf (netOf n)) k (g .found-is) (g .count-is) (candidates-fit (netOf n) starts)
-
   sound-at : (e : ℕ) → e < n .elements → isIn sound e ≡ sound? (netOf n .grid) e
-  unfolding oneOf sound? netOf gridOf
-  sound-at e h = set-at n w (n .elements) _ sound (fits n w) (g .sound-is) e h ∙ or-self (eqb (at (n .flags) e) 1) ∙ sound-flag (at (n .flags) e)
+  sound-at e h = ap (λ (xs : List ℕ). isIn xs e) (g .sound-is) ∙ sources-at n w e h
 
   layered : Layered n w (sw .link) (sw .closed) (sw .count) (g .reach) sound base sound-at base-long base-apart lumped
   layered = subst (Layered n w (sw .link) (sw .closed) (sw .count) (g .reach) sound base sound-at base-long base-apart) (sym (g .lumped-is))
@@ -178,7 +158,7 @@ module _ (n : Network) (w : WellFormed n) (starts : Starts (netOf n)) {operable 
 
   -- the states that a set leaves, with the spurs left out
   abbrev after : ℕ → List ℕ
-  after s = statesIn (lumped .base) (sw .link) (sw .closed) (sw .count) s
+  after s = withSet (at (sw .link)) (at (sw .closed)) (sw .count) s (lumped .base)
 
   abbrev last : ℕ → Config
   last s = flip (netOf n .startClosed) (switchesOf (netOf n) s)
@@ -188,7 +168,6 @@ module _ (n : Network) (w : WellFormed n) (starts : Starts (netOf n)) {operable 
   closable = closableIn (lumped .base) (sw .link) (sw .count)
 
   after-closable : (s l : ℕ) → l < n .links → closedIn (after s) l ≡ true → isIn closable l ≡ true
-  unfolding statesIn
   after-closable s l h on = set-closable (lumped .base) (sw .link) (sw .closed) (sw .count) s l (g .reach) (layered .base-long) on
 
   abbrev own : OwnEnds
@@ -233,7 +212,7 @@ module _ (n : Network) (w : WellFormed n) (starts : Starts (netOf n)) {operable 
 
   checked-after : (s : ℕ) → Checked (lumped .load) (n .capacity) (n .flags) (n .from) (n .to) (own .head) (own .next) (own .far) (after s) (n .elements) (n .links)
   checked-after s = checked lighter lighter-formed (isIn closable) own (after s) refl (after-closable s)
-      (states-long (lumped .base) (sw .link) (sw .closed) (sw .count) s ∙ layered .base-long)
+      (length-states (at (sw .link)) (at (sw .closed)) (sw .count) s (lumped .base) ∙ layered .base-long)
 
   -- the parts of the packed arrays
   chain-own : chain ≡ packedEnds own
@@ -255,44 +234,70 @@ module _ (n : Network) (w : WellFormed n) (starts : Starts (netOf n)) {operable 
   capacity-is : capacityOf rating ≡ n .capacity
   capacity-is = rw (g .rating-is) (packed-capacity (lumped .load) (n .capacity) (w .capacity-long))
 
-  -- the theorem: what `cheapest_of` asks
-  pub scanning : Scans (lumped .base) (sw .link) (sw .closed) chain rating k (sw .count) (n .elements) (n .links)
-  scanning = record {
-    some = omega (arith, g .count-is, candidates-fit (netOf n) starts);
-    fit = w .elements-fit;
-    reach = g .reach;
+  -- the theorem: what `seek_candidates` asks
+  pub walking : Walked n sw (lumped .base) chain rating
+  walking = record {
+    long = layered .base-long;
+    opened = opened;
     lent = λ s. rw (head-is, next-is, far-is, load-is, capacity-is) (checked-after s .lent);
   }
+    where
+      -- a switch is open in `base`, and lumping closes nothing
+      in-list : (i : ℕ) → i < switchList n (operables (netOf n)) .count → at (openedIn n) (at (switchList n (operables (netOf n)) .link) i) ≡ 0
+      in-list i b =
+          let k : i < length (operables (netOf n)) = omega (arith, b, count-is n w) in
+          ap (at (openedIn n)) (link-at n w few i k) ∙ opened-off n w (at (operables (netOf n)) i) (operable-in n w i k .1) (operable-in n w i k .0)
+
+      link-in : (i : ℕ) → i < switchList n (operables (netOf n)) .count → at (switchList n (operables (netOf n)) .link) i < n .links
+      link-in i b =
+          let k : i < length (operables (netOf n)) = omega (arith, b, count-is n w) in
+          omega (arith, link-at n w few i k, operable-in n w i k .0)
+
+      opened : (i : ℕ) → i < sw .count → at (lumped .base) (at (sw .link) i) ≡ 0
+      opened i b = layered .off (at (sw .link) i) (subst (λ (x : Switches). (i : ℕ) → i < x .count → at (x .link) i < n .links) (sym (g .switches-are)) link-in i b)
+          (ap (λ (xs : List ℕ). at xs (at (sw .link) i)) (g .base-is)
+          ∙ subst (λ (x : Switches). (i : ℕ) → i < x .count → at (openedIn n) (at (x .link) i) ≡ 0) (sym (g .switches-are)) in-list i b)
 
   abbrev fitting : ℕ → Bool
-  fitting = fitsIn (packedGrid (n .elements) (n .links) chain rating) sound (lumped .base) (sw .link) (sw .closed) (sw .count)
+  fitting = fittingIn n sw (lumped .base) chain rating
 
   -- where a set leaves no loop, the loads in its states are those of its last configuration
   fits-last : (s : ℕ) → candidate? (netOf n) (switchesOf (netOf n) s) ≡ true
       → fitting s ≡ not (ltb (lowestOver (netOf n .grid) (last s)) (netOf n .grid .E))
-  unfolding fitsIn walkGrid netOf gridOf candidate? loaded statesIn
+  unfolding fittingIn walkGrid netOf gridOf passes? loaded soundIn
   fits-last s h =
       let radial = radial-out (netOf n .grid) (formed-net n w) (last s) (and-left (radial? (netOf n .grid) (last s)) _ h) in
-      rw (far-is, load-is, capacity-is) (within-same (checked-after s) (g .sound-is))
+      rw (far-is, load-is, capacity-is) (ap (λ (x : ℕ). not (ltb x (n .elements))) (over-lowest-is (checked-after s) (soundIn n) refl))
       ∙ ap (λ (x : ℕ). not (ltb x (n .elements))) (layered .same s (last s) (radial .bridges) (λ l b q. sym (states-at s l b) ∙ q)
       ∙ over-same (netOf n .grid) (formed-net n w) _ (last s) (states-at s))
 
-  fits-works : (s : ℕ) → (candidate? (netOf n) (switchesOf (netOf n) s) && fitting s) ≡ works? (netOf n) (switchesOf (netOf n) s)
-  fits-works s = go (candidate? (netOf n) (switchesOf (netOf n) s)) refl ∙ sym (works-candidate (netOf n) (switchesOf (netOf n) s))
+  fits-works : (s : ℕ) → (suppliedCandidate? (netOf n) s && fitting s) ≡ works? (netOf n) (switchesOf (netOf n) s)
+  unfolding suppliedCandidate?
+  fits-works s = go (candidate? (netOf n) (switchesOf (netOf n) s)) refl ∙ supplied-works (netOf n) (formed-net n w) 4294967296 (switchesOf (netOf n) s)
     where
+      borne : Bool
+      borne = supplied? (netOf n .grid) (asksOf (netOf n)) (last s)
+
       go : (t : Bool) → candidate? (netOf n) (switchesOf (netOf n) s) ≡ t
-          → (candidate? (netOf n) (switchesOf (netOf n) s) && fitting s)
-          ≡ (candidate? (netOf n) (switchesOf (netOf n) s) && not (ltb (lowestOver (netOf n .grid) (last s)) (netOf n .grid .E)))
-      go true t = ap (λ (b : Bool). candidate? (netOf n) (switchesOf (netOf n) s) && b) (fits-last s t)
+          → ((candidate? (netOf n) (switchesOf (netOf n) s) && borne) && fitting s)
+          ≡ ((candidate? (netOf n) (switchesOf (netOf n) s) && borne) && not (ltb (lowestOver (netOf n .grid) (last s)) (netOf n .grid .E)))
+      go true t = ap (λ (b : Bool). (candidate? (netOf n) (switchesOf (netOf n) s) && borne) && b) (fits-last s t)
       go false t = rw t
 
-  -- the theorem: the scan of the sets found gives the first cheapest of all sets that work
-  pub scan-cheapest : scan (priceIn (sw .price) (sw .count)) fitting (take k found) none ≡ cheapestSet (netOf n)
-  unfolding candidatesOf cheapestSet
-  scan-cheapest =
-      ap (λ (xs : List ℕ). scan (priceIn (sw .price) (sw .count)) fitting xs none) front
-      ∙ scan-passing (priceIn (sw .price) (sw .count)) fitting (λ s. candidate? (netOf n) (switchesOf (netOf n) s)) (setsFrom (length (operables (netOf n))) 0) none
-      ∙ scan-ext (priceIn (sw .price) (sw .count)) _ _ _ price-at fits-works (setsFrom (length (operables (netOf n))) 0) none
+  -- the theorem: the candidates tried in turn, from none on, give the first cheapest of all sets that work
+  pub cheapest-found : {best : Best} (cost set : ℕ)
+      → best ≡ scan (keep (priceOf (at (sw .price)) (sw .count)) (fittingIn n sw (lumped .base) chain rating)) (candidatesOf (netOf n)) (record { cost = cost; set = set })
+      → cost ≡ 18446744073709551615 → set ≡ 0 → best ≡ cheapestSet (netOf n)
+  unfolding candidatesOf cheapestSet cheapestBy none
+  cheapest-found cost set e none-cost none-set =
+      e
+      ∙ ap₂ (λ (c s : ℕ). scan (keep (priceOf (at (sw .price)) (sw .count)) fitting) (candidatesOf (netOf n)) (record { cost = c; set = s })) none-cost none-set
+      ∙ scan-tested (priceOf (at (sw .price)) (sw .count)) fitting (suppliedCandidate? (netOf n)) (setsFrom (length (operables (netOf n))) 0) none
+      ∙ scan-ext (priceOf (at (sw .price)) (sw .count)) _ _ _ price-at fits-works (setsFrom (length (operables (netOf n))) 0) none
 
-  pub cheapest-is : {r : Best} → r ≡ scan (priceIn (sw .price) (sw .count)) fitting (take k found) none → r ≡ cheapestSet (netOf n)
-  cheapest-is q = q ∙ scan-cheapest
+  -- its number is small
+  pub found-small : {best : Best} → best ≡ cheapestSet (netOf n) → best .set < 4096
+  unfolding cheapestSet
+  found-small e =
+      let top : 2 ^ length (operables (netOf n)) ≤ 2 ^ 12 = pow-le-pow-right {n = 2} (omega arith) (starts .few) in
+      omega (arith, ap (λ (b : Best). b .set) e, cheapest-below (operables (netOf n)) (setCost (netOf n)) (works? (netOf n)))

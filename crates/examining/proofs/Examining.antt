@@ -1,7 +1,7 @@
--- The examination of a plan's steps: one step by its tests, the turns of the loop, whose rest gives the whole answer, and its end.
+-- The turns of the examination's loop: the configuration before a step is safe, and the steps that are left give the whole answer.
 -- Assumes nothing.
 use mathlib.Core.Path.{_≡_, refl, sym, ap, ap₂, _∙_}
-use mathlib.Core.Bool.{Bool, true, false, not, _&&_, false≢true}
+use mathlib.Core.Bool.{Bool, true, false, not, _&&_}
 use mathlib.Core.List.{List, [], _∷_}
 use Prim.Native.Nat.{ℕ, suc, _+_, _≤_, _<_}
 use native.Mathlib.Numerals.{add-one}
@@ -9,25 +9,22 @@ use native.Mathlib.Omega.{arith}
 use lib.Dec.{eqb, ltb}
 use lib.ListN.{length, set, getD, length-set, List·getD-eq-default}
 use lib.Seq.{getD-set-same, getD-set-other}
-use borrow.Author.Tests.{eqb-true, eqb-false, eq-eqb, ne-eqb, ltb-true, ltb-false}
+use borrow.Author.Tests.{eqb-true, eqb-false, ne-eqb, ltb-true, ltb-false}
 use Rattle.network.specs.declared.Network.{Network}
-use Rattle.network.specs.declared.refusal.Refusal.{Refusal}
-use Rattle.network.specs.declared.refusal.Answer.{Answer}
-use Rattle.network.specs.declared.refusal.Answer.the-variants.{Accepted, Refused}
 use Rattle.network.specs.Accepted.{WellFormed}
 use Rattle.plan_file.specs.declared.plan.Plan.{Plan}
 use Rattle.plan_file.specs.Accepted.{WellFormedPlan}
 use Rattle.plan_writer.specs.Writing.{stateNumber}
 use Rattle.plan_writer.proofs.RoundTrip.{state-small}
-use Rattle.feeding.specs.Acceptance.{safety}
+use Rattle.feeding.specs.Acceptance.{Starts}
 use Rattle.feeding.specs.Below.{bits}
 use Rattle.feeding.specs.Networks.{Grid, Net, Formed, netOf, gridOf, at, isIn}
 use Rattle.feeding.specs.Parts.{Config, closedIn}
 use Rattle.feeding.specs.Plans.{Step, put, differ}
-use Rattle.feeding.specs.Safety.{safe?}
-use Rattle.feeding.proofs.Below.{gate-le}
+use Rattle.feeding.specs.Safety.{Safe, safe?}
+use Rattle.feeding.proofs.Below.{same-test, gate-le}
 use Rattle.feeding.proofs.Bits.{at-bits, length-bits}
-use Rattle.feeding.proofs.Decided.{safety-safe, safe-safety}
+use Rattle.feeding.proofs.Decided.{safety-safe, safe-safety, safe?-sound, safe?-complete}
 use Rattle.feeding.proofs.States.{safety-same}
 use Rattle.feeding.proofs.Views.{formed-net}
 use Rattle.sets.specs.Sets.{oneOf}
@@ -38,49 +35,21 @@ use Rattle.printed.proofs.Steps.{LinksBelow}
 use Rattle.marking.specs.declared.BadStep.{BadStep}
 use Rattle.marking.specs.declared.Examined.{Examined}
 use Rattle.marking.specs.declared.Examined.the-variants.{AllGood, Bad}
-use Rattle.marking.specs.declared.Reason.the-variants.{NotOperable, AlreadySo, Unsafe}
 use Rattle.marking.specs.Marks.{examined, firstBad, stepExamined, stepsExamined}
-use Rattle.examining.specs.Answers.{accepted?}
+use Rattle.marking.proofs.Examining.{all-pass}
 use Rattle.submitted.proofs.Front.{stepAt, stepsLeft, all-left, one-taken, none-left, steps-below}
 use Rattle.submitted.proofs.Configurations.{set-put, put-same}
-
-accepted-safe : (g : Grid) (c : Config) → accepted? (safety g c) ≡ safe? g c
-accepted-safe g c = both (safety g c) refl (safe? g c) refl
-  where
-    both : (a : Answer) → safety g c ≡ a → (t : Bool) → safe? g c ≡ t → accepted? a ≡ t
-    both Accepted e true t = refl
-    both Accepted e false t = absurd (false≢true (sym t ∙ safety-safe g c e))
-    both (Refused r) e true t = let s = safe-safety g c t in let z : _≡_ {A = ℕ} 0 1 = cc in absurd (omega arith)
-    both (Refused r) e false t = refl
-
-safe-same : (g : Grid) → Formed g → (c c′ : Config) → ((l : ℕ) → l < g .K → c l ≡ c′ l) → safe? g c ≡ safe? g c′
-safe-same g formed c c′ same = sym (accepted-safe g c) ∙ ap accepted? (safety-same g formed c c′ same) ∙ accepted-safe g c′
-
--- ---- one step, by the numbers that the code compares
-
-module _ (i operable state want : ℕ) (a : Answer) where
-  abbrev answer : Examined
-  answer = examined i (eqb operable 1) (not (eqb state want)) (accepted? a)
-
-  pub not-operable : (operable ≡ 1 → ⊥) → (r : Examined) → r ≡ Bad (record { step = i; reason = NotOperable }) → r ≡ answer
-  unfolding examined
-  not-operable h r e = e ∙ rw (ne-eqb operable 1 h)
-
-  module _ (op : operable ≡ 1) where
-    pub already-so : state ≡ want → (r : Examined) → r ≡ Bad (record { step = i; reason = AlreadySo }) → r ≡ answer
-    unfolding examined
-    already-so k r e = e ∙ rw (eq-eqb operable 1 op, eq-eqb state want k)
-
-    pub unsafe-then : (state ≡ want → ⊥) → (f : Refusal) → a ≡ Refused f
-        → (r : Examined) → r ≡ Bad (record { step = i; reason = Unsafe }) → r ≡ answer
-    unfolding examined
-    unsafe-then k f q r e = e ∙ rw (eq-eqb operable 1 op, ne-eqb state want k, q)
-
-    pub good-then : (state ≡ want → ⊥) → a ≡ Accepted → AllGood ≡ answer
-    unfolding examined
-    good-then k q = rw (eq-eqb operable 1 op, ne-eqb state want k, q)
+use Rattle.closing_check.specs.Checks.{closesOver}
+use Rattle.examining.specs.Steps.{keptSafe, Steppable}
+use Rattle.examining.proofs.Networks.{Made, closable}
+use Rattle.examining.proofs.Steps.{found-is}
 
 -- ---- links past the last one don't matter, in the states and in the operable set
+
+safe-same : (g : Grid) → Formed g → (c c′ : Config) → ((l : ℕ) → l < g .K → c l ≡ c′ l) → safe? g c ≡ safe? g c′
+safe-same g formed c c′ same = same-test _ _
+    (λ h. safety-safe g c′ (sym (safety-same g formed c c′ same) ∙ safe-safety g c h))
+    (λ h. safety-safe g c (safety-same g formed c c′ same ∙ safe-safety g c′ h))
 
 pub examined-same : (net : Net) → Formed (net .grid) → (op op′ : ℕ → Bool) → ((l : ℕ) → l < net .grid .K → op l ≡ op′ l)
     → (c c′ : Config) → ((l : ℕ) → l < net .grid .K → c l ≡ c′ l)
@@ -115,15 +84,6 @@ set-small closed l w small k m = go (eqb m l) refl
     go true t = rw (eqb-true m l t, getD-set-same closed l (stateNumber w) 0 k) (state-small w)
     go false t = rw (getD-set-other closed l m (stateNumber w) 0 (eqb-false m l t)) (small m)
 
-changes-is : (state : ℕ) (w : Bool) → state ≤ 1 → not (eqb state (stateNumber w)) ≡ differ (eqb state 1) w
-changes-is state w h = go (eqb state 1) refl w
-  where
-    go : (t : Bool) → eqb state 1 ≡ t → (w : Bool) → not (eqb state (stateNumber w)) ≡ differ t w
-    go true t true = ap not t
-    go true t false = rw (eqb-true state 1 t)
-    go false t true = ap not t
-    go false t false = let e : state ≡ 0 = omega (arith, eqb-false state 1 t) in rw e
-
 -- ---- the loop
 
 -- the steps from step i on, the first of which has number m
@@ -133,21 +93,25 @@ laterExamined n operable p closed m i = stepsExamined (netOf n) (isIn operable) 
 abbrev allExamined : Network → List ℕ → Plan → Examined
 allExamined n operable p = stepsExamined (netOf n) (isIn operable) (netOf n .startClosed) 1 (stepsOf p)
 
--- before step i, in these states: the steps that are left give the whole answer
+-- before step i, in these states
 pub record Examining (n : Network) (operable : List ℕ) (p : Plan) (closed : List ℕ) (i : ℕ) : Type 0 where
   pub at-most : i ≤ p .steps
   pub long : length closed ≡ 96
   pub small : (l : ℕ) → at closed l ≤ 1
+  pub safe : Safe (netOf n .grid) (closedIn closed)
   pub rest : laterExamined n operable p closed (i + 1) i ≡ allExamined n operable p
 
 module _ (n : Network) (w : WellFormed n) (operable : List ℕ) (p : Plan) (v : WellFormedPlan (n .links) p) where
-  pub first-turn : (closed : List ℕ) → closed ≡ bits 96 (n .links) (oneOf (n .form) 0 2) → Examining n operable p closed 0
+  pub first-turn : Starts (netOf n) → (closed : List ℕ) → closed ≡ bits 96 (n .links) (oneOf (n .form) 0 2) → Examining n operable p closed 0
   unfolding netOf gridOf
-  first-turn closed e =
+  first-turn starts closed e =
       record {
         at-most = omega arith;
         long = bits-long closed (n .links) (oneOf (n .form) 0 2) e;
         small = bits-small 96 (n .links) (oneOf (n .form) 0 2) closed e;
+        safe = safe?-sound (netOf n .grid) (formed-net n w) (closedIn closed)
+            (safe-same (netOf n .grid) (formed-net n w) (closedIn closed) (netOf n .startClosed) (closed-at n w closed e)
+            ∙ safe?-complete (netOf n .grid) (formed-net n w) (netOf n .startClosed) (starts .safe));
         rest =
             ap (stepsExamined (netOf n) (isIn operable) (closedIn closed) 1) (all-left p)
             ∙ examined-same (netOf n) (formed-net n w) (isIn operable) (isIn operable) (λ _ _. refl) (closedIn closed) (netOf n .startClosed)
@@ -160,54 +124,63 @@ module _ (n : Network) (w : WellFormed n) (operable : List ℕ) (p : Plan) (v : 
   last-turn closed i now k =
       sym (ap (stepsExamined (netOf n) (isIn operable) (closedIn closed) (i + 1)) (none-left p i k)) ∙ now .rest
 
-  -- step i, wanted in the state `want`, leaves the states closed′, which are answered a
-  module _ (closed : List ℕ) (i : ℕ) (now : Examining n operable p closed i) (k : i < p .steps)
-      (want : ℕ) (want-is : want ≡ stateNumber (getD (p .close) i false))
-      (closed′ : List ℕ) (closed-is : closed′ ≡ set closed (at (p .link) i) want)
-      (a : Answer) (a-is : a ≡ safety (gridOf (n .elements) (n .links) (n .load) (n .capacity) (n .flags) (n .from) (n .to)) (closedIn closed′))
-      (found : Examined)
-      (found-is : found ≡ examined (i + 1) (eqb (at operable (at (p .link) i)) 1) (not (eqb (at closed (at (p .link) i)) want)) (accepted? a)) where
+  -- step i, over the lists that were made of the network
+  module _ (chain sign rating : List ℕ) (made : Made n chain sign rating)
+      (closed : List ℕ) (i : ℕ) (now : Examining n operable p closed i) (k : i < p .steps) where
     abbrev link : ℕ
     link = at (p .link) i
 
     abbrev wanted : Bool
     wanted = getD (p .close) i false
 
-    inside : link < length closed
-    inside = omega (arith, now .long, v .link-in i k, w .links-fit)
+    pub steppable : Steppable chain closed sign rating (n .elements) (n .links) (at (p .link) i)
+    steppable = record {
+      below = omega (arith, v .link-in i k, w .links-fit);
+      closable = λ h. closable n w chain sign rating made link (v .link-in i k) closed (now .long) (now .safe) (ne-eqb (at closed link) 1 h);
+    }
 
-    left : closed′ ≡ set closed link (stateNumber wanted)
-    left = closed-is ∙ ap (set closed link) want-is
+    module _ (want : ℕ) (want-is : want ≡ stateNumber (getD (p .close) i false)) (m : ℕ) (m-is : m ≡ i + 1) (found : Examined)
+        (by-tests : found ≡ examined m (eqb (at operable (at (p .link) i)) 1) (not (eqb (at closed (at (p .link) i)) want))
+        (keptSafe want (closesOver (n .elements) (n .links) chain closed sign rating (at (p .link) i)))) where
+      step-is : found ≡ stepExamined (netOf n) (isIn operable) (closedIn closed) (i + 1) (stepAt p i)
+      unfolding stepExamined netOf
+      step-is =
+          by-tests ∙ found-is n w chain sign rating made closed (now .long) (now .safe) (stepAt p i) (v .link-in i k) m (at operable link) want want-is (now .small link)
+          ∙ ap (λ (x : ℕ). stepExamined (netOf n) (isIn operable) (closedIn closed) x (stepAt p i)) m-is
 
-    puts : closedIn closed′ ≡ put (closedIn closed) link wanted
-    puts = ap closedIn left ∙ set-put closed link wanted inside
+      whole-is : firstBad found (stepsExamined (netOf n) (isIn operable) (put (closedIn closed) link wanted) (suc (i + 1)) (stepsLeft p (i + 1)))
+          ≡ allExamined n operable p
+      unfolding stepsExamined
+      whole-is =
+          ap (λ (x : Examined). firstBad x (stepsExamined (netOf n) (isIn operable) (put (closedIn closed) link wanted) (suc (i + 1)) (stepsLeft p (i + 1)))) step-is
+          ∙ ap (stepsExamined (netOf n) (isIn operable) (closedIn closed) (i + 1)) (sym (one-taken p i k)) ∙ now .rest
 
-    step-is : found ≡ stepExamined (netOf n) (isIn operable) (closedIn closed) (i + 1) (stepAt p i)
-    unfolding stepExamined netOf
-    step-is =
-        found-is
-        ∙ ap₂ (λ (changes safe : Bool). examined (i + 1) (isIn operable link) changes safe)
-        (ap (λ (x : ℕ). not (eqb (at closed link) x)) want-is ∙ changes-is (at closed link) wanted (now .small link))
-        (ap accepted? a-is ∙ accepted-safe (netOf n .grid) (closedIn closed′) ∙ ap (safe? (netOf n .grid)) puts)
+      pub bad-turn : (b : BadStep) → found ≡ Bad b → found ≡ allExamined n operable p
+      unfolding firstBad
+      bad-turn b e = e
+          ∙ ap (λ (x : Examined). firstBad x (stepsExamined (netOf n) (isIn operable) (put (closedIn closed) link wanted) (suc (i + 1)) (stepsLeft p (i + 1)))) (sym e)
+          ∙ whole-is
 
-    whole-is : firstBad found (laterExamined n operable p closed′ (suc (i + 1)) (i + 1)) ≡ allExamined n operable p
-    unfolding stepsExamined
-    whole-is =
-        ap₂ (λ (x : Examined) (c : Config). firstBad x (stepsExamined (netOf n) (isIn operable) c (suc (i + 1)) (stepsLeft p (i + 1)))) step-is puts
-        ∙ ap (stepsExamined (netOf n) (isIn operable) (closedIn closed) (i + 1)) (sym (one-taken p i k)) ∙ now .rest
+      pub good-turn : (closed′ : List ℕ) → closed′ ≡ set closed (at (p .link) i) want → (j : ℕ) → j ≡ i + 1 → found ≡ AllGood → Examining n operable p closed′ j
+      unfolding firstBad stepExamined netOf
+      good-turn closed′ is j next e =
+          record {
+            at-most = omega arith;
+            long = ap length left ∙ length-set closed link (stateNumber wanted) ∙ now .long;
+            small = rw left (set-small closed link wanted (now .small) inside);
+            safe = safe?-sound (netOf n .grid) (formed-net n w) (closedIn closed′) (ap (safe? (netOf n .grid)) puts ∙ all-pass (i + 1) _ _ _ (sym step-is ∙ e) .2);
+            rest =
+                ap₂ (λ (m x : ℕ). laterExamined n operable p closed′ m x) (ap (λ (x : ℕ). x + 1) next ∙ add-one (i + 1)) next
+                ∙ ap (λ (c : Config). stepsExamined (netOf n) (isIn operable) c (suc (i + 1)) (stepsLeft p (i + 1))) puts
+                ∙ ap (λ (x : Examined). firstBad x (stepsExamined (netOf n) (isIn operable) (put (closedIn closed) link wanted) (suc (i + 1)) (stepsLeft p (i + 1)))) (sym e)
+                ∙ whole-is;
+          }
+        where
+          inside : link < length closed
+          inside = omega (arith, now .long, v .link-in i k, w .links-fit)
 
-    pub bad-turn : (b : BadStep) → found ≡ Bad b → found ≡ allExamined n operable p
-    unfolding firstBad
-    bad-turn b e = e ∙ ap (λ (x : Examined). firstBad x (laterExamined n operable p closed′ (suc (i + 1)) (i + 1))) (sym e) ∙ whole-is
+          left : closed′ ≡ set closed link (stateNumber wanted)
+          left = is ∙ ap (set closed link) want-is
 
-    pub good-turn : (j : ℕ) → j ≡ i + 1 → found ≡ AllGood → Examining n operable p closed′ j
-    unfolding firstBad
-    good-turn j next e =
-        record {
-          at-most = omega arith;
-          long = ap length left ∙ length-set closed link (stateNumber wanted) ∙ now .long;
-          small = rw left (set-small closed link wanted (now .small) inside);
-          rest =
-              ap₂ (λ (m x : ℕ). laterExamined n operable p closed′ m x) (ap (λ (x : ℕ). x + 1) next ∙ add-one (i + 1)) next
-              ∙ ap (λ (x : Examined). firstBad x (laterExamined n operable p closed′ (suc (i + 1)) (i + 1))) (sym e) ∙ whole-is;
-        }
+          puts : closedIn closed′ ≡ put (closedIn closed) link wanted
+          puts = ap closedIn left ∙ set-put closed link wanted inside

@@ -1,1 +1,3 @@
+pub mod Networks
+pub mod Steps
 pub mod Examining

@@ -3,7 +3,7 @@
 use mathlib.Core.Path.{_≡_}
 use mathlib.Core.Bool.{Bool, true, false, not, _&&_}
 use Prim.Native.Nat.{ℕ, zero, suc, _+_, _*_, _<_, min}
-use lib.Dec.{eqb, leb}
+use lib.Dec.{eqb, ltb, leb}
 use Rattle.feeding.specs.Below.{sumTo, leastTo}
 use Rattle.feeding.specs.Networks.{Grid}
 use Rattle.feeding.specs.Parts.{Config, touches, far, Sound, sound?}
@@ -60,6 +60,10 @@ unfoldable mutual
   pub linkOver : Grid → Config → ℕ → ℕ → ℕ → ℕ
   linkOver g c zero l e = g .E
   linkOver g c (suc d) l e = elementOver g c d (far g l e) l
+
+-- the walk from the source s meets no element above its capacity
+unfoldable pub withinFrom? : Grid → Config → ℕ → Bool
+withinFrom? g c s = not (ltb (elementOver g c (2 * g .E) s (g .K)) (g .E))
 
 -- over the walks from all sound sources
 unfoldable pub lowestOver : Grid → Config → ℕ

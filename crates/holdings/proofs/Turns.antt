@@ -14,7 +14,7 @@ use Rattle.feeding.specs.Below.{gate, sumTo}
 use Rattle.feeding.specs.Networks.{at, isIn}
 use Rattle.feeding.proofs.Lows.{table-ext}
 use Rattle.feeding.proofs.Sums.{sumTo-more}
-use Rattle.planning.specs.Candidates.{holding, hasSource, hasFault, hasNeed, waitsFor, clash, together, serves}
+use Rattle.carrying.specs.Holding.{holding, hasSource, hasFault, hasNeed, waitsFor, clash, together, serves}
 use Rattle.holdings.specs.Holdings.{waitingAt, holdingsOf}
 
 -- ---- a part that waits

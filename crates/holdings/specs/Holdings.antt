@@ -6,7 +6,7 @@ use Prim.Native.Nat.{ℕ}
 use lib.Dec.{eqb}
 use Rattle.feeding.specs.Below.{gate, tabulate}
 use Rattle.feeding.specs.Networks.{at, isIn}
-use Rattle.planning.specs.Candidates.{holding, waitsFor}
+use Rattle.carrying.specs.Holding.{holding, waitsFor}
 
 -- what the part of each element holds, by three sets
 unfoldable pub holdingsOf : (live faulty needed : List ℕ) → List ℕ

@@ -4,10 +4,11 @@ ghost use mathlib.Core.Bool.{_||_};
 ghost use Prim.Native.Nat.{_≤_};
 ghost use lib.ListN.{length};
 ghost use Rattle.feeding.specs.Below.{sumTo, gate};
-ghost use Rattle.planning.specs.Candidates.{holding, hasSource, hasFault, hasNeed, waitsFor, clash, together, serves};
+ghost use Rattle.carrying.specs.Holding.{holding, hasSource, hasFault, hasNeed, waitsFor, clash, together, serves};
 ghost use Rattle.holdings.specs.Holdings.{waitingAt, holdingsOf};
 
-fn source_in(h: u8) -> bool
+// The part has a sound source.
+pub fn source_in(h: u8) -> bool
     ensures { λ r. ⌜ r ≡ hasSource h ⌝ }
 {
     h % 2 == 1

@@ -11,10 +11,11 @@ use Rattle.network.specs.declared.refusal.Answer.{Answer}
 use Rattle.network.specs.declared.refusal.Answer.the-variants.{Accepted, Refused}
 use Rattle.network.specs.Accepted.{WellFormed}
 use Rattle.network_file.specs.Runs.{Outcome}
+use Rattle.network_file.specs.Inputs.{decides}
 use Rattle.plan_file.specs.declared.plan.Plan.{Plan}
 use Rattle.judge_input.specs.declared.BothRead.{BothRead}
 use Rattle.judge_input.specs.Inputs.{bothInput, bothRead}
-use Rattle.judge_input.proofs.Decide.{both-decided}
+use Rattle.judge_input.proofs.Alike.{both-decided}
 use Rattle.feeding.specs.Networks.{netOf}
 use Rattle.feeding.specs.Acceptance.{Answered, Starts, answerTo}
 use Rattle.feeding.specs.Plans.{ValidPlan}
@@ -116,6 +117,6 @@ refused-exactly s bytes f = (λ r. sym (kept-mark s _ (refused r)), λ e. go (ma
         same = cc
 
 -- "the first 4,096 bytes decide"
-pub mark-decided : (s : List ℕ) → markFor (take 4096 s) ≡ markFor s
+pub mark-decided : (s : List ℕ) → markFor (take decides s) ≡ markFor s
 unfolding markFor
-mark-decided s = ap (λ (o : Outcome (Network × Plan)). markOfRead (bothRead o)) (both-decided s)
+mark-decided s = ap (λ (o : Outcome (Network × Plan)). markOfRead (bothRead o)) (both-decided decides (omega arith) s)

@@ -1,4 +1,4 @@
 pub mod Inputs
 pub mod Order
 pub mod Sizes
-pub mod Decide
+pub mod Alike

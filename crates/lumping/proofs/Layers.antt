@@ -69,6 +69,7 @@ module _ (n : Network) (w : WellFormed n) (link closed : List ℕ) (count : ℕ)
     pub load-long : length (t .load) ≡ 64
     pub load-in : (e : ℕ) → e < n .elements → at (t .load) e < 2 ^ 32
     pub sub : (l : ℕ) → l < n .links → isIn (t .base) l ≡ true → isIn base l ≡ true
+    pub off : (l : ℕ) → l < n .links → at base l ≡ 0 → at (t .base) l ≡ 0
     pub less : (s l : ℕ) → l < n .links → over s (t .base) l ≡ true → over s base l ≡ true
     pub same : (s : ℕ) (whole : Config) → Bridges grid whole → ((l : ℕ) → l < n .links → over s base l ≡ true → whole l ≡ true)
         → lowestOver (loaded grid (at (t .load))) (over s (t .base)) ≡ lowestOver grid (over s base)
@@ -80,6 +81,7 @@ module _ (n : Network) (w : WellFormed n) (link closed : List ℕ) (count : ℕ)
     load-long = w .load-long;
     load-in = w .load-in;
     sub = λ l k h. h;
+    off = λ l k h. h;
     less = λ s l k h. h;
     same = λ s whole b h. refl;
   }
@@ -115,6 +117,7 @@ module _ (n : Network) (w : WellFormed n) (link closed : List ℕ) (count : ℕ)
       load-in = next 0 .kept .load-in;
       sub = λ l k h. ⊎-elim (λ q. before .sub l k (ap (λ x. eqb x 1) (sym q) ∙ h)) (λ q. absurd (false≢true (sym (ap (λ x. eqb x 1) (q .1)) ∙ h)))
           (next 0 .kept .left l k);
+      off = λ l k h. ⊎-elim (λ q. q ∙ before .off l k h) (λ q. q .1) (next 0 .kept .left l k);
       less = λ s l k h. before .less s l k (under grid (formed-net n w) fit few has sound (n .capacity) capacity-is capacity-in
           sources (over s) (t .base) (before .base-long) (laid s) _ (next s .kept) l k h);
       same = λ s whole b h. next s .same whole b (λ l k q. h l k (before .less s l k q)) ∙ before .same s whole b h;

@@ -20,13 +20,13 @@ use Rattle.spurs.specs.Spurs.{FarIn, lumpedTo}
 use Rattle.spurs.proofs.Turns.{AsLong, as-long, to-long}
 use Rattle.lumping.specs.Layers.{closableEnds, layersFor, lumpedLayers}
 
-pub few-layers : (n : ℕ) → n < 16 → 0 ≡ layersFor n
+pub few-layers : (n : ℕ) → n < 10 → 0 ≡ layersFor n
 unfolding layersFor
-few-layers n h = rw (lt-ltb n 16 h, layersFor)
+few-layers n h = rw (lt-ltb n 10 h, layersFor)
 
-pub some-layers : (n : ℕ) → 16 ≤ n → 4 ≡ layersFor n
+pub some-layers : (n : ℕ) → 10 ≤ n → 4 ≡ layersFor n
 unfolding layersFor
-some-layers n h = rw (le-ltb n 16 h, layersFor)
+some-layers n h = rw (le-ltb n 10 h, layersFor)
 
 module _ (n : Network) (link : List ℕ) (count : ℕ) (sound : List ℕ) (s : Lumped) where
   pub no-layer : s ≡ lumpedLayers n link count sound s 0

@@ -21,9 +21,9 @@ closableIn base link count = withSet (at link) (at (replicate 16 1)) count 0 bas
 unfoldable pub closableEnds : Network → (link : List ℕ) (count : ℕ) (base : List ℕ) → OwnEnds
 closableEnds n link count base = ownEnds (at (n .from)) (at (n .to)) (isIn (closableIn base link count)) (n .links)
 
--- how many layers are lumped where n sets are to be tried
+-- how many layers are lumped where sets of n switches are to be tried
 unfoldable pub layersFor : ℕ → ℕ
-layersFor n = elim (ltb n 16) [ true ↦ 0 | false ↦ 4 ]
+layersFor n = elim (ltb n 10) [ true ↦ 0 | false ↦ 4 ]
 
 -- that many layers of spurs lumped: what a spur hung from may be one in the next layer
 unfoldable pub lumpedLayers : Network → (link : List ℕ) (count : ℕ) (sound : List ℕ) → Lumped → ℕ → Lumped

@@ -11,8 +11,8 @@ ghost use Rattle.network.specs.Accepted.{WellFormed};
 ghost use Rattle.switches.specs.Switches.{SwitchReach};
 ghost use Rattle.lumping.specs.Layers.{closableEnds, layersFor, lumpedLayers};
 
-// For fewer sets lumping costs more than it spares.
-const MANY_SETS: usize = 16;
+// For fewer switches lumping costs more than it spares.
+const MANY_SWITCHES: usize = 10;
 
 // Few spurs hang by more layers than these.
 const LAYERS: usize = 4;
@@ -30,11 +30,11 @@ pub fn closable_ends<'a>(net: Network, base: [u8; 96], link: &'a [u8; 16], count
     own_ends(&from, &to, &closable, net.links)
 }
 
-// How many layers of spurs are lumped before n sets are tried.
-pub fn layers_for(n: usize) -> usize
-    ensures { λ r. ⌜ r ≡ layersFor n ⌝ }
+// How many layers of spurs are lumped before sets of this many switches are tried.
+pub fn layers_for(switches: usize) -> usize
+    ensures { λ r. ⌜ r ≡ layersFor switches ⌝ }
 {
-    if n < MANY_SETS {
+    if switches < MANY_SWITCHES {
         return 0;
     }
     LAYERS

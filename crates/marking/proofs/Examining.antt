@@ -49,7 +49,7 @@ state-other : (a w : Bool) → a ≡ not w → ¬ (a ≡ w)
 state-other a true e f = false≢true (sym e ∙ f)
 state-other a false e f = false≢true (sym f ∙ e)
 
-all-unbad : (b : BadStep) → ¬ (AllGood ≡ Bad b)
+pub all-unbad : (b : BadStep) → ¬ (AllGood ≡ Bad b)
 all-unbad b e = let z : _≡_ {A = ℕ} 0 1 = cc in omega arith
 
 both-good : (x y : Examined) → firstBad x y ≡ AllGood → (x ≡ AllGood) × (y ≡ AllGood)
@@ -57,7 +57,7 @@ unfolding firstBad
 both-good AllGood y h = (refl, h)
 both-good (Bad b) y h = absurd (all-unbad b (sym h))
 
-all-pass : (i : ℕ) (a d e : Bool) → examined i a d e ≡ AllGood → (a ≡ true) × (d ≡ true) × (e ≡ true)
+pub all-pass : (i : ℕ) (a d e : Bool) → examined i a d e ≡ AllGood → (a ≡ true) × (d ≡ true) × (e ≡ true)
 unfolding examined
 all-pass i false d e h = absurd (all-unbad _ (sym h))
 all-pass i true false e h = absurd (all-unbad _ (sym h))

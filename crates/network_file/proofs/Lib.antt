@@ -6,7 +6,8 @@ pub mod Chains
 pub mod Inputs
 pub mod Order
 pub mod Sizes
-pub mod Decide
 pub mod Contents
 pub mod Accepted
-pub mod Followed
+pub mod Looking
+pub mod Alike
+pub mod NetworkAlike

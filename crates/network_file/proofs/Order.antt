@@ -6,8 +6,6 @@ use mathlib.Core.List.{List, [], _∷_, _++_, List·Memᴰ, List·Memᴰ·not-ni
 use mathlib.Core.Logic.{_⊎_, inl, inr, ⊎-elim, ⊎-map}
 use Prim.Native.Nat.{ℕ, zero, suc, _+_, _<_, _≤_}
 use native.Mathlib.Omega.{arith}
-use lib.Dec.{eqb}
-use borrow.Author.Tests.{eqb-true}
 use Rattle.network.specs.declared.refusal.Refusal.{Refusal}
 use Rattle.network.specs.declared.refusal.Rule.{Rule}
 use Rattle.network.specs.declared.refusal.Verdict.the-variants.{Broken}
@@ -24,7 +22,7 @@ use Rattle.network.specs.Networks.{emptyNetwork}
 use Rattle.network_file.specs.Runs.{refused, reached, records, asIs}
 use Rattle.network_file.specs.NetworkFiles.{withElement, withLink, networkFile}
 use Rattle.network_file.specs.Inputs.{networkInput}
-use Rattle.records.proofs.Due.{AllKept, due-refused}
+use Rattle.records.proofs.Due.{AllKept, of-kind, due-refused}
 use Rattle.network_file.proofs.Runs.{records-none, records-refused, records-suc}
 use Rattle.network_file.proofs.Parts.{Behind, AfterEnd, then-refused, closed-refused, headRun, elementsRun, linksRun, endRun, withElements, withLinks, network-chain}
 
@@ -70,14 +68,6 @@ rising-append low mid high (c ∷ cs) b l r = (l .0, rising-append (ruleNumber (
 frame-rises : (s : List ℕ) (at : ℕ) (stage : Stage) → Rising 0 4 (frameRules s at stage)
 unfolding frameRules
 frame-rises s at stage = omega arith
-
--- by cases on the kind: of this kind, or of another
-of-kind : (P : ℕ → Type 0) (kind k : ℕ) → P k → (eqb kind k ≡ false → P kind) → P kind
-of-kind P kind k this other = go (eqb kind k) refl
-  where
-    go : (t : Bool) → eqb kind k ≡ t → P kind
-    go true e = rw (eqb-true kind k e) this
-    go false e = other e
 
 fields-rise : (s : List ℕ) (at kind elements links : ℕ) → Rising 4 12 (fieldRules s at kind elements links)
 unfolding fieldRules headRules elementRules linkRules planHeadRules stepRules

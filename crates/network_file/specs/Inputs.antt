@@ -18,6 +18,10 @@ use Rattle.network.specs.Networks.{emptyNetwork}
 use Rattle.network_file.specs.Runs.{Outcome, refused, reached, andThen}
 use Rattle.network_file.specs.NetworkFiles.{networkFile}
 
+-- "Accepted input has at most 3,854 bytes, so the first 4,096 bytes decide."
+abbrev pub decides : ℕ
+decides = 4096
+
 -- how far reading came
 abbrev pub reachedOf : {A : Type 0} → Outcome A → Reached
 reachedOf (refused r) = Reached·Refused r

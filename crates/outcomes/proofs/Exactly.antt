@@ -1,26 +1,24 @@
 -- Demands 1 and 2 as equivalences, and one answer for each: the outcome has three cases, and the promise of each refutes the other two.
 -- Assumes nothing.
 use mathlib.Core.Path.{_≡_, refl, sym, ap, _∙_, subst}
-use mathlib.Core.Bool.{Bool, true, false, false≢true}
+use mathlib.Core.Bool.{Bool}
 use mathlib.Core.List.{List}
-use mathlib.Core.Logic.{_⊎_, inl, inr}
 use Prim.Native.Nat.{ℕ, _≤_, _<_}
 use native.Mathlib.Omega.{arith}
 use lib.ListN.{getD, take}
-use lib.Dec.{ltb}
-use borrow.Author.Tests.{ltb-true, ltb-false}
 use Rattle.network.specs.declared.Network.{Network}
 use Rattle.network.specs.declared.refusal.Refusal.{Refusal}
 use Rattle.network.specs.declared.refusal.Answer.the-variants as Answer·
 use Rattle.network_file.specs.declared.NetworkRead.{NetworkRead}
-use Rattle.network_file.specs.Inputs.{networkRead}
-use Rattle.network_file.proofs.Decide.{network-decided}
+use Rattle.network_file.specs.Inputs.{decides, networkRead}
+use Rattle.network_file.proofs.NetworkAlike.{network-decided}
 use Rattle.network_file.specs.Runs as Runs
 use Rattle.feeding.specs.Networks.{Net, netOf}
 use Rattle.feeding.specs.Plans.{Step, ValidPlan, costOf, printedForm}
 use Rattle.acceptance.specs.Reading.{acceptedRead, Admission, Accepts, Refuses}
 use Rattle.acceptance.proofs.Promises.{admission-only}
-use Rattle.planning.specs.Choosing.{Before, Promised, NoPlan}
+use Rattle.planning.specs.Choosing.{Promised, NoPlan}
+use Rattle.planning.proofs.Preferring.{first-same}
 use Rattle.printed.specs.Printing.{stepsOf}
 use Rattle.sums.specs.declared.Sums.{Sums}
 use Rattle.outcomes.specs.declared.Planned.{Planned}
@@ -81,23 +79,11 @@ module _ (s : List ℕ) (bytes : (i : ℕ) → getD s i 0 < 256) where
   )
 
 -- "the first 4,096 bytes decide"
-pub outcome-decided : (s : List ℕ) → outcome (take 4096 s) ≡ outcome s
+pub outcome-decided : (s : List ℕ) → outcome (take decides s) ≡ outcome s
 unfolding outcome
-outcome-decided s = ap (λ (o : Runs.Outcome Network). outcomeRead (acceptedRead (networkRead o))) (network-decided s)
+outcome-decided s = ap (λ (o : Runs.Outcome Network). outcomeRead (acceptedRead (networkRead o))) (network-decided decides (omega arith) s)
 
 -- ---- one promised plan
-
--- no two sets come before each other
-before-once : (D D′ : ℕ → Bool) → Before D D′ → ¬ Before D′ D
-before-once D D′ x y = go (ltb (x .at) (y .at)) refl (ltb (y .at) (x .at)) refl
-  where
-    go : (t : Bool) → ltb (x .at) (y .at) ≡ t → (u : Bool) → ltb (y .at) (x .at) ≡ u → ⊥
-    go true t _ _ = false≢true (sym (x .lacks) ∙ y .alike (x .at) (ltb-true (x .at) (y .at) t) ∙ x .has)
-    go false t true u = false≢true (sym (y .lacks) ∙ x .alike (y .at) (ltb-true (y .at) (x .at) u) ∙ y .has)
-    go false t false u = false≢true (sym (x .lacks) ∙ subst (λ (m : ℕ). D′ m ≡ true) meet (y .has))
-      where
-        meet : y .at ≡ x .at
-        meet = omega (arith, ltb-false (x .at) (y .at) t, ltb-false (y .at) (x .at) u)
 
 pub promised-unique : (net : Net) (p q : List Step) (a b : ℕ) → Promised net p a → Promised net q b → (a ≡ b) × (p ≡ q)
 promised-unique net p q a b x y = (
@@ -127,9 +113,4 @@ promised-unique net p q a b x y = (
     alike = ap (costOf net) (sym (y .form)) ∙ omega (arith, p-cost, q-cost, p-least, q-least) ∙ ap (costOf net) (x .form)
 
     same : D ≡ D′
-    same = go (x .picked .first D′ (y .picked .restores) alike) (y .picked .first D (x .picked .restores) (sym alike))
-      where
-        go : (D ≡ D′) ⊎ Before D D′ → (D′ ≡ D) ⊎ Before D′ D → D ≡ D′
-        go (inl e) _ = e
-        go (inr _) (inl e) = sym e
-        go (inr f) (inr g) = absurd (before-once D D′ f g)
+    same = first-same D D′ (x .picked .first D′ (y .picked .restores) alike) (y .picked .first D (x .picked .restores) (sym alike))

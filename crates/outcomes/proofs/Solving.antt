@@ -22,7 +22,7 @@ use Rattle.feeding.proofs.States.{live-same}
 use Rattle.feeding.proofs.Sums.{sumTo-ext}
 use Rattle.plan_file.specs.declared.plan.Plan.{Plan}
 use Rattle.plan_file.specs.PlanFiles.{emptyPlan}
-use Rattle.planning.specs.Sets.{setOf, switchesOf}
+use Rattle.planning.specs.Sets.{setOf, switchesOf, setIn}
 use Rattle.planning.proofs.Rising.{at-member}
 use Rattle.printed.specs.Printing.{planWith, formOf}
 use Rattle.printed.proofs.Steps.{with-count, empty-steps, form-printed}
@@ -46,7 +46,7 @@ set-inside op (suc m) top s l h d = go (set-inside op m top (s / 2) l (λ j k. h
     go ih false t e = ih e
 
 pub switches-inside : (net : Net) (s l : ℕ) → switchesOf net s l ≡ true → l < net .grid .K
-unfolding switchesOf operables
+unfolding setIn operables
 switches-inside net s l d =
     set-inside (at (operables net)) (length (operables net)) (net .grid .K) s l
     (λ j k. those-out (net .grid .K) (operable? net) _ (at-member (operables net) j k) .0) d

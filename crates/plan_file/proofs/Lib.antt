@@ -5,6 +5,6 @@ pub mod Chains
 pub mod Inputs
 pub mod Order
 pub mod Sizes
-pub mod Decide
 pub mod Contents
 pub mod Accepted
+pub mod Alike

@@ -1,11 +1,7 @@
-pub mod Carried
-pub mod Choices
-pub mod Found
-pub mod Holdings
-pub mod Joining
-pub mod Listing
-pub mod Merging
-pub mod OneMore
-pub mod Radial
 pub mod Rising
+pub mod Preferring
+pub mod Choices
 pub mod Scans
+pub mod Prices
+pub mod Cheapest
+pub mod Found

@@ -91,7 +91,7 @@ NoPlan net = NoPlanBy net (Operable net) (Restored net)
 abbrev pub CostsLeast : Net → ℕ → Type 0
 CostsLeast net cost = CostsLeastBy net (Operable net) (Restored net) (costOf net) cost
 
--- ---- what computes: the plain recursion over all sets of operable switches, for any cost of a set and any test of it
+-- ---- what computes: the plain recursion over all sets of the switches of a list, for any preference between sets and any test of a set
 
 pub data Choice : Type 0 where
   nothing : Choice
@@ -101,16 +101,24 @@ pub data Choice : Type 0 where
 unfoldable pub firstIf : Bool → Choice → Choice → Choice
 firstIf t x y = elim t [ true ↦ x | false ↦ y ]
 
--- the cheaper of two; the first where they cost the same
-unfoldable pub cheaper : (cost : (ℕ → Bool) → ℕ) → Choice → Choice → Choice
-cheaper cost nothing y = y
-cheaper cost (chosen a) nothing = chosen a
-cheaper cost (chosen a) (chosen b) = firstIf (leb (cost a) (cost b)) (chosen a) (chosen b)
+-- whether the first of two sets is taken where it comes before the second
+abbrev pub Preference : Type 0
+Preference = (ℕ → Bool) → (ℕ → Bool) → Bool
 
--- the cheapest set that works, over the switches of the list, and like D elsewhere; a set that has the next switch comes first
-unfoldable pub best : (cost : (ℕ → Bool) → ℕ) (works : (ℕ → Bool) → Bool) → (ℕ → Bool) → List ℕ → Choice
-best cost works D [] = firstIf (works D) (chosen D) nothing
-best cost works D (l ∷ ls) = cheaper cost (best cost works (put D l true) ls) (best cost works (put D l false) ls)
+-- by the least cost: the first costs no more
+unfoldable pub noDearer : ((ℕ → Bool) → ℕ) → Preference
+noDearer cost a b = leb (cost a) (cost b)
+
+-- the one preferred of two; the first where neither is better
+unfoldable pub better : Preference → Choice → Choice → Choice
+better prefers nothing y = y
+better prefers (chosen a) nothing = chosen a
+better prefers (chosen a) (chosen b) = firstIf (prefers a b) (chosen a) (chosen b)
+
+-- the best set that works, over the switches of the list, and like D elsewhere; a set that has the next switch comes first
+unfoldable pub best : Preference → (works : (ℕ → Bool) → Bool) → (ℕ → Bool) → List ℕ → Choice
+best prefers works D [] = firstIf (works D) (chosen D) nothing
+best prefers works D (l ∷ ls) = better prefers (best prefers works (put D l true) ls) (best prefers works (put D l false) ls)
 
 -- ---- document 01
 
@@ -118,6 +126,6 @@ best cost works D (l ∷ ls) = cheaper cost (best cost works (put D l true) ls) 
 unfoldable pub works? : Net → (ℕ → Bool) → Bool
 works? net D = elim (safe? (net .grid) (flip (net .startClosed) D)) [ true ↦ restored? net (flip (net .startClosed) D) | false ↦ false ]
 
--- over all sets of operable switches
+-- the cheapest, over all sets of operable switches
 unfoldable pub planned : Net → Choice
-planned net = best (setCost net) (works? net) (λ _. false) (operables net)
+planned net = best (noDearer (setCost net)) (works? net) (λ _. false) (operables net)

@@ -1,4 +1,4 @@
--- Sets of operable switches as numbers, and the cheapest of a list of them: what the search computes.
+-- Sets of switches as numbers, and the cheapest of a list of them: what a search computes.
 -- Assumes nothing.
 use mathlib.Core.Bool.{Bool, true, false}
 use mathlib.Core.List.{List, [], _∷_, _++_}
@@ -33,6 +33,11 @@ unfoldable pub passing : (ℕ → Bool) → List ℕ → List ℕ
 passing ok [] = []
 passing ok (s ∷ ss) = elim (ok s) [ true ↦ s ∷ passing ok ss | false ↦ passing ok ss ]
 
+-- each set of the list in turn, for any way to keep what was found
+unfoldable pub scan : {S : Type 0} → (visit : S → ℕ → S) → List ℕ → S → S
+scan visit [] b = b
+scan visit (s ∷ ss) b = scan visit ss (visit b s)
+
 -- no set yet: dearer than any
 unfoldable pub none : Best
 none = record { cost = 18446744073709551615; set = 0 }
@@ -41,26 +46,30 @@ none = record { cost = 18446744073709551615; set = 0 }
 unfoldable pub keep : (cost : ℕ → ℕ) (ok : ℕ → Bool) → Best → ℕ → Best
 keep cost ok b s = elim (ltb (cost s) (b .cost)) [ true ↦ elim (ok s) [ true ↦ record { cost = cost s; set = s } | false ↦ b ] | false ↦ b ]
 
--- the first cheapest of the list and b
-unfoldable pub scan : (cost : ℕ → ℕ) (ok : ℕ → Bool) → List ℕ → Best → Best
-scan cost ok [] b = b
-scan cost ok (s ∷ ss) b = scan cost ok ss (keep cost ok b s)
+-- ---- over the switches of a list, for any cost of a set and any test of it
 
--- the operable switches by their place among them, and how many they are
+-- the set that a number writes
+unfoldable pub setIn : List ℕ → ℕ → (ℕ → Bool)
+setIn ls s = setOf (at ls) (length ls) s
+
+-- the first cheapest of all sets that work
+unfoldable pub cheapestBy : List ℕ → (cost : (ℕ → Bool) → ℕ) (works : (ℕ → Bool) → Bool) → Best
+cheapestBy ls cost works = scan (keep (λ s. cost (setIn ls s)) (λ s. works (setIn ls s))) (setsFrom (length ls) 0) none
+
+-- the choice that it stands for
+unfoldable pub choiceBy : List ℕ → Best → Choice
+choiceBy ls b = elim (ltb (b .cost) 18446744073709551615) [ true ↦ chosen (setIn ls (b .set)) | false ↦ nothing ]
+
+-- ---- document 01: its operable switches, by their place among them
+
 abbrev pub operableAt : Net → ℕ → ℕ
 operableAt net i = at (operables net) i
 
 abbrev pub operableCount : Net → ℕ
 operableCount net = length (operables net)
 
--- the set that a number writes over the operable switches
-unfoldable pub switchesOf : Net → ℕ → (ℕ → Bool)
-switchesOf net s = setOf (operableAt net) (operableCount net) s
+abbrev pub switchesOf : Net → ℕ → (ℕ → Bool)
+switchesOf net s = setIn (operables net) s
 
--- the first cheapest of all sets that work
 unfoldable pub cheapestSet : Net → Best
-cheapestSet net = scan (λ s. setCost net (switchesOf net s)) (λ s. works? net (switchesOf net s)) (setsFrom (operableCount net) 0) none
-
--- the choice that it stands for
-unfoldable pub choiceOf : Net → Best → Choice
-choiceOf net b = elim (ltb (b .cost) 18446744073709551615) [ true ↦ chosen (switchesOf net (b .set)) | false ↦ nothing ]
+cheapestSet net = cheapestBy (operables net) (setCost net) (works? net)

@@ -85,7 +85,7 @@ nextAt Steps = Steps
 nextAt PlanEnd = Over
 nextAt Over = Over
 
--- the least and the largest length of the kinds at a stage, and the largest of all kinds
+-- the least and the largest length of the kinds at a stage
 
 abbrev pub shortest : Stage → ℕ
 shortest Head = 8
@@ -107,9 +107,6 @@ longest Steps = 8
 longest PlanEnd = 4
 longest Over = 0
 
-abbrev pub longestRecord : ℕ
-longestRecord = 12
-
 leads-go : (t : Bool) (st next : Stage) → leads t st ≡ Go next → (t ≡ true) × (next ≡ st)
 leads-go true st next h = (refl, cc)
 leads-go false st next h = let z : _≡_ {A = ℕ} 0 1 = cc in absurd (omega arith)
@@ -128,6 +125,14 @@ goes-one-way Steps k next h = leads-one k 6 Steps next h
 goes-one-way PlanEnd k next h = leads-one k 4 Over next h
 goes-one-way Over k next h = let z : _≡_ {A = ℕ} 0 1 = cc in absurd (omega arith)
 
+-- by cases on the kind: of this kind, or of another
+pub of-kind : (P : ℕ → Type 0) (kind k : ℕ) → P k → (eqb kind k ≡ false → P kind) → P kind
+of-kind P kind k this other = go (eqb kind k) refl
+  where
+    go : (t : Bool) → eqb kind k ≡ t → P kind
+    go true e = rw (eqb-true kind k e) this
+    go false e = other e
+
 -- how long a record at a stage is: at least an end record, and within the stage's bounds
 abbrev pub LengthAt : Stage → ℕ → Type 0
 LengthAt st long = (4 ≤ long) × (shortest st ≤ long) × (long ≤ longest st)
@@ -142,19 +147,6 @@ length-at PlanHead k e = rw e (omega arith)
 length-at Steps k e = rw e (omega arith)
 length-at PlanEnd k e = rw e (omega arith)
 length-at Over k e = absurd e
-
-pick-most : (t : Bool) (a b : ℕ) → a ≤ longestRecord → b ≤ longestRecord → pick t a b ≤ longestRecord
-pick-most true a b ha hb = ha
-pick-most false a b ha hb = hb
-
--- no kind's records are longer
-pub length-most : (k : ℕ) → lengthOf k ≤ longestRecord
-unfolding lengthOf
-length-most k =
-    pick-most (eqb k 1) 8 _ (omega arith)
-    (pick-most (eqb k 2) 10 _ (omega arith)
-    (pick-most (eqb k 3) 12 _ (omega arith)
-    (pick-most (eqb k 4) 4 _ (omega arith) (pick-most (eqb k 5) 6 _ (omega arith) (pick-most (eqb k 6) 8 0 (omega arith) (omega arith))))))
 
 -- What rules 1 to 4 promise of a record.
 pub record Framed (s : List ℕ) (at : ℕ) (stage : Stage) (kind long : ℕ) (next : Stage) : Type 0 where
@@ -190,7 +182,7 @@ found-refused s at stage (Broken x) r h =
     let q : _≡_ {A = Refusal} (record { rule = x; place = at }) r = cc in
     (ap Broken (ap (λ (y : Refusal). y .rule) q), sym (ap (λ (y : Refusal). y .place) q))
 
-not-refused : (n : Next) (other : Stage) → isRefused n ≡ false → n ≡ Go (named n other)
+pub not-refused : (n : Next) (other : Stage) → isRefused n ≡ false → n ≡ Go (named n other)
 not-refused (Go st) other h = refl
 not-refused Next·Refused other h = let z : _≡_ {A = ℕ} 0 1 = cc in absurd (omega arith)
 

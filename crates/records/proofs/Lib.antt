@@ -1,2 +1,4 @@
 pub mod Due
 pub mod Reader
+pub mod SameBytes
+pub mod Alike

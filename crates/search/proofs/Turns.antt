@@ -1,285 +1,287 @@
 -- The search over arrays by the cases of the code: what each return leaves, what a join and its undoing leave, and that the numbers fit.
 -- Assumes nothing.
-use mathlib.Core.Path.{_≡_, refl, sym, ap, _∙_}
-use mathlib.Core.Bool.{Bool, true, false, Bool·beq, false≢true}
-use mathlib.Core.List.{List, [], _∷_, _++_}
-use Prim.Native.Nat.{ℕ, suc, _+_, _*_, _-_, _^_, _<_, _≤_, min, max}
+use mathlib.Core.Path.{_≡_, refl, sym, ap, ap₂, _∙_}
+use mathlib.Core.Bool.{Bool, true, false, not}
+use mathlib.Core.List.{List}
+use Prim.Native.Nat.{ℕ, zero, suc, _+_, _*_, _-_, _/_, _%_, _^_, _<_, _≤_, min, max}
 use native.Mathlib.Nat.{pow-le-pow-right}
 use native.Mathlib.Numerals.{add-one}
 use native.Mathlib.Omega.{arith}
-use lib.Dec.{ltb}
-use lib.ListN.{length, set, length-set, length-append}
-use lib.Seq.{sets, set-set, set-getD}
-use borrow.Author.Tests.{eq-eqb, ne-eqb, lt-ltb, le-ltb, ltb-true, ltb-false}
-use Rattle.network.proofs.Stores.{stored-behind}
+use lib.Dec.{ltb, eqb}
+use lib.ListN.{length, set, length-set}
+use lib.Seq.{set-set, set-getD, getD-set-same, getD-set-other}
+use borrow.Author.Tests.{eq-eqb, ne-eqb, lt-ltb, le-ltb, le-leb, lt-leb, ltb-true, ltb-false, not-true}
 use Rattle.feeding.specs.Below.{gate}
-use Rattle.feeding.specs.Networks.{at, isIn}
-use Rattle.feeding.specs.Plans.{differ}
+use Rattle.feeding.specs.Networks.{at}
 use Rattle.feeding.proofs.Below.{gate-le}
 use Rattle.parts.specs.Labelling.{rootOf}
 use Rattle.parts.proofs.Roots.{root-in, root-is, falls-set}
-use Rattle.planning.specs.Candidates.{clash, together, serves, listed, joining}
-use Rattle.planning.proofs.Listing.{listed-end, listed-short, listed-next, deciding-open, deciding-closed, joining-loop, joining-clash, joining-on}
-use Rattle.search.specs.Searching.{Searches, switching, servedIn, listedIn, decidedIn, joinedIn}
-
--- what a function leaves that lists xs from `at` on
-abbrev pub Leaves : (xs found parent holds : List ℕ) (place r : ℕ) (found′ parent′ holds′ : List ℕ) → Type 0
-Leaves xs found parent holds place r found′ parent′ holds′ =
-    (r ≡ place + length xs) × ((found′ ≡ sets found place xs) × ((parent′ ≡ parent) × (holds′ ≡ holds)))
-
-leaves-none : (xs found parent holds : List ℕ) (place : ℕ) → xs ≡ [] → Leaves xs found parent holds place place found parent holds
-leaves-none xs found parent holds place e = rw e (omega arith, (refl, (refl, refl)))
-
--- ---- all switches are chosen, or none can follow
-
-module _ (total served s : ℕ) (found : List ℕ) (place : ℕ) where
-  served-is : served ≡ total → servedIn total served s ≡ s ∷ []
-  unfolding servedIn
-  served-is e = rw (eq-eqb served total e, servedIn)
-
-  unserved-is : (served ≡ total → ⊥) → servedIn total served s ≡ []
-  unfolding servedIn
-  unserved-is e = rw (ne-eqb served total e, servedIn)
-
-  pub served-room : served ≡ total → place + length (servedIn total served s) ≤ 4096 → place < 4096
-  served-room e room = omega (arith, ap length (served-is e))
-
-  pub served-listed : served ≡ total
-      → (place + 1 ≡ place + length (servedIn total served s)) × (set found place s ≡ sets found place (servedIn total served s))
-  served-listed e = rw (served-is e) (refl, refl)
-
-  pub unserved-listed : (served ≡ total → ⊥)
-      → (place ≡ place + length (servedIn total served s)) × (found ≡ sets found place (servedIn total served s))
-  unserved-listed e = rw (unserved-is e) (omega arith, refl)
-
-module _ (from to closed : List ℕ) (total count i served s : ℕ) (p h found : List ℕ) (place : ℕ) where
-  last-is : i ≡ count → listedIn from to closed total count i served s p h ≡ servedIn total served s
-  unfolding listedIn servedIn
-  last-is e =
-      let z : count - i ≡ 0 = omega arith in
-      rw z (listed-end (switching from to closed) total i served s p h)
-
-  pub last-room : i ≡ count → place + length (listedIn from to closed total count i served s p h) ≤ 4096
-      → place + length (servedIn total served s) ≤ 4096
-  last-room e room = rw (last-is e) at room
-
-  pub last-leaves : (r : ℕ) (found′ : List ℕ) → i ≡ count
-      → (r ≡ place + length (servedIn total served s)) × (found′ ≡ sets found place (servedIn total served s))
-      → Leaves (listedIn from to closed total count i served s p h) found p h place r found′ p h
-  last-leaves r found′ e (a, b) = rw (last-is e) (a, (b, (refl, refl)))
-
-  few-is : i < count → served + (count - i) < total → listedIn from to closed total count i served s p h ≡ []
-  unfolding listedIn
-  few-is k few =
-      let n : count - i ≡ suc (count - suc i) = omega arith in
-      rw n (listed-short (switching from to closed) total (count - suc i) i served s p h (lt-ltb _ total (omega arith)))
-
-  pub too-few : i < count → served + (count - i) < total
-      → Leaves (listedIn from to closed total count i served s p h) found p h place place found p h
-  too-few k few = leaves-none _ found p h place (few-is k few)
-
--- ---- the next switch, operated and not
-
-module _ (from to closed : List ℕ) (total count i served s : ℕ) (p h : List ℕ) (k : i < count) (enough : total ≤ served + (count - i)) where
-  next-is : listedIn from to closed total count i served s p h
-      ≡ decidedIn from to closed total count i true served (2 * s + 1) p h ++ decidedIn from to closed total count i false served (2 * s) p h
-  unfolding listedIn decidedIn
-  next-is =
-      let n : count - i ≡ suc (count - suc i) = omega arith in
-      rw (n, add-one i)
-      (listed-next (switching from to closed) total (count - suc i) i served s p h (le-ltb _ total (omega arith)))
-
-  next-long : length (listedIn from to closed total count i served s p h)
-      ≡ length (decidedIn from to closed total count i true served (2 * s + 1) p h)
-      + length (decidedIn from to closed total count i false served (2 * s) p h)
-  next-long = ap length next-is ∙ simp length-append
-
-  -- what is listed with the switch operated fits, and behind it what is listed without
-  pub room-operated : (place : ℕ) → place + length (listedIn from to closed total count i served s p h) ≤ 4096
-      → place + length (decidedIn from to closed total count i true served (2 * s + 1) p h) ≤ 4096
-  room-operated place room = omega (arith, next-long)
-
-  pub room-left : (place r : ℕ) (p′ h′ : List ℕ) → place + length (listedIn from to closed total count i served s p h) ≤ 4096
-      → r ≡ place + length (decidedIn from to closed total count i true served (2 * s + 1) p h) → p′ ≡ p → h′ ≡ h
-      → r + length (decidedIn from to closed total count i false served (2 * s) p′ h′) ≤ 4096
-  room-left place r p′ h′ room e f g = rw (f, g) (omega (arith, next-long))
-
-  pub both-leave : (found found′ found″ p′ p″ h′ h″ : List ℕ) (place r r′ : ℕ)
-      → Leaves (decidedIn from to closed total count i true served (2 * s + 1) p h) found p h place r found′ p′ h′
-      → Leaves (decidedIn from to closed total count i false served (2 * s) p′ h′) found′ p′ h′ r r′ found″ p″ h″
-      → Leaves (listedIn from to closed total count i served s p h) found p h place r′ found″ p″ h″
-  both-leave found found′ found″ p′ p″ h′ h″ place r r′ (a, (b, (c, d))) (e, (f, (g, j))) =
-      let same = decidedIn from to closed total count i true served (2 * s + 1) p h in
-      let other = decidedIn from to closed total count i false served (2 * s) p h in
-      let e′ : r′ ≡ r + length other = e ∙ rw (c, d) in
-      let f′ : found″ ≡ sets found′ r other = f ∙ rw (c, d) in (
-        omega (arith, next-long),
-        (
-          stored-behind found found′ found″ place r same other b f′ a ∙ ap (sets found place) (sym next-is),
-          (g ∙ c, j ∙ d),
-        ),
-      )
+use Rattle.planning.specs.declared.Best.{Best}
+use Rattle.carrying.specs.Holding.{clash, together, serves}
+use Rattle.planning.specs.Sets.{keep, priceOf}
+use Rattle.setting.specs.Setting.{Setting, Settled}
+use Rattle.planning.proofs.Scans.{keep-dear, keep-failed}
+use Rattle.carrying.specs.Searching.{bears, carriedOn, joining, dearer}
+use Rattle.carrying.proofs.Searched.{decides-open, decides-closed, joins-loop, joins-clash, joins-heavy, joins-on}
+use Rattle.carrying.proofs.Searched.{visited-end, visited-short, visited-stops, visited-next}
+use Rattle.search.specs.Searching.{Seeks, Placed, bestIn, fitsIn, statesBy, visitIn, switchingIn, soughtFrom, soughtIn, decidedIn, joinedIn}
+use Rattle.search.proofs.Placing.{ends-open, ends-closed, fits-here, sought-over, state-undone}
 
 -- ---- the numbers fit
 
-module _ (from to closed p h : List ℕ) (count i served s : ℕ) (z : Searches from to closed p h count i served s) where
-  -- a set of at most 12 switches is below 4096
-  pub set-small : s < 4096
+module _ (B : Setting) (z : Settled B) (p h : List ℕ) (i served s cost : ℕ) (k : Seeks B p h i served s cost) where
+  -- a set of at most 16 switches is below 65536
+  pub set-small : s < 65536
   set-small =
-      let few : i ≤ 12 = omega (arith, z .fit, z .reached) in
-      let top : 2 ^ i ≤ 2 ^ 12 = pow-le-pow-right {n = 2} (omega arith) few in
-      omega (arith, z .set-in)
+      let few : i ≤ 16 = omega (arith, z .fit, k .reached) in
+      let top : 2 ^ i ≤ 2 ^ 16 = pow-le-pow-right {n = 2} (omega arith) few in
+      omega (arith, k .set-in)
+
+  price-most : (n t : ℕ) → n ≤ B .count → priceOf (B .price) n t ≤ 65535 * n
+  unfolding priceOf
+  price-most zero t few = omega arith
+  price-most (suc n) t few = omega (arith, price-most n (t / 2) (omega arith), gate-le (eqb (t % 2) 1) (B .price n), z .price-in n (omega arith))
+
+  pub cost-small : cost ≤ 1048560
+  cost-small = omega (arith, k .cost-is, price-most i s (k .reached), k .reached, z .fit)
 
   next-in : (t : ℕ) → t ≤ 2 * s + 1 → t < 2 ^ (i + 1)
-  next-in t k = rw (add-one i) (omega (arith, z .set-in))
+  next-in t q = rw (add-one i) (omega (arith, k .set-in))
 
-  -- at the next switch, with the set that it makes
-  pub searches-next : (p′ h′ : List ℕ) (t : ℕ) → i < count → t ≤ 2 * s + 1 → p′ ≡ p → h′ ≡ h
-      → Searches from to closed p′ h′ count (i + 1) served t
-  searches-next p′ h′ t k small e f = rw (e, f) (record {
-    fit = z .fit;
+  price-operated : priceOf (B .price) (i + 1) (2 * s + 1) ≡ priceOf (B .price) i s + B .price i
+  unfolding priceOf
+  price-operated =
+      let d : (2 * s + 1) / 2 ≡ s = omega arith in
+      let r : (2 * s + 1) % 2 ≡ 1 = omega arith in
+      rw (add-one i, d, r)
+
+  price-left : priceOf (B .price) (i + 1) (2 * s) ≡ priceOf (B .price) i s
+  unfolding priceOf
+  price-left =
+      let d : (2 * s) / 2 ≡ s = omega arith in
+      let r : (2 * s) % 2 ≡ 0 = omega arith in
+      rw (add-one i, d, r) (omega arith)
+
+  -- at the next switch, operated and not
+  pub seeks-operated : (t more : ℕ) → i < B .count → t ≡ 2 * s + 1 → more ≡ cost + B .price i → Seeks B p h (i + 1) served t more
+  seeks-operated t more b f e = record {
     reached = omega arith;
-    from-long = z .from-long;
-    to-long = z .to-long;
-    closed-long = z .closed-long;
-    parent-long = z .parent-long;
-    holds-long = z .holds-long;
-    from-in = z .from-in;
-    to-in = z .to-in;
-    falls = z .falls;
-    served-few = omega (arith, z .served-few);
-    set-in = next-in t small;
+    parent-long = k .parent-long;
+    holds-long = k .holds-long;
+    falls = k .falls;
+    served-few = omega (arith, k .served-few);
+    set-in = next-in t (omega arith);
+    cost-is = omega (arith, e, k .cost-is, price-operated, ap (priceOf (B .price) (i + 1)) f);
+  }
+
+  pub seeks-left : (p′ h′ : List ℕ) (t : ℕ) → i < B .count → t ≡ 2 * s → p′ ≡ p → h′ ≡ h → Seeks B p′ h′ (i + 1) served t cost
+  seeks-left p′ h′ t b q e f = rw (e, f) (record {
+    reached = omega arith;
+    parent-long = k .parent-long;
+    holds-long = k .holds-long;
+    falls = k .falls;
+    served-few = omega (arith, k .served-few);
+    set-in = next-in t (omega arith);
+    cost-is = omega (arith, k .cost-is, price-left, ap (priceOf (B .price) (i + 1)) q);
   })
 
--- ---- whether the switch ends open
+-- what a function leaves whose result is X
+abbrev pub Leaves : (X : Best) (states parent holds spare best′ states′ parent′ holds′ spare′ : List ℕ) → Type 0
+Leaves X states parent holds spare best′ states′ parent′ holds′ spare′ =
+    (bestIn best′ ≡ X) × ((length best′ ≡ 2) × ((states′ ≡ states) × ((parent′ ≡ parent) × ((holds′ ≡ holds) × (spare′ ≡ spare)))))
 
-pub ends-open : (shut operate : Bool) → Bool·beq shut operate ≡ true → differ shut operate ≡ false
-ends-open true true e = refl
-ends-open true false e = absurd (false≢true e)
-ends-open false true e = absurd (false≢true e)
-ends-open false false e = refl
+-- ---- the search, by its cases
 
-pub ends-closed : (shut operate : Bool) → Bool·beq shut operate ≡ false → differ shut operate ≡ true
-ends-closed true true e = absurd (false≢true (sym e))
-ends-closed true false e = refl
-ends-closed false true e = refl
-ends-closed false false e = absurd (false≢true (sym e))
+module _ (B : Setting) (st : List ℕ) (i served s : ℕ) (p h v best : List ℕ) (lb : length best ≡ 2) (reached : i ≤ B .count) where
+  abbrev stop : ℕ → ℕ → Best → Bool
+  stop = dearer (priceOf (B .price))
 
--- ---- a switch that ends open
+  abbrev fitting : ℕ → Bool
+  fitting t = fitsIn B (statesBy B (B .count) t st)
 
-module _ (from to closed : List ℕ) (total count i : ℕ) (operate : Bool) (served s : ℕ) (p h : List ℕ)
-    (ends : differ (isIn closed i) operate ≡ false) where
-  open-is : decidedIn from to closed total count i operate served s p h ≡ listedIn from to closed total count (i + 1) served s p h
-  unfolding decidedIn listedIn switching
-  open-is = deciding-open (switching from to closed) (listed (switching from to closed) total (count - (i + 1)) (i + 1)) i operate served s p h ends
+  stays : soughtIn B st i served s p h v (bestIn best) ≡ bestIn best → Leaves (soughtIn B st i served s p h v (bestIn best)) st p h v best st p h v
+  stays e = (sym e, (lb, (refl, (refl, (refl, refl)))))
 
-  pub open-room : (place : ℕ) → place + length (decidedIn from to closed total count i operate served s p h) ≤ 4096
-      → place + length (listedIn from to closed total count (i + 1) served s p h) ≤ 4096
-  open-room place room = rw open-is at room
+  -- too few switches are left for the parts that wait
+  pub few-leaves : served + (B .count - i) < B .want → Leaves (soughtIn B st i served s p h v (bestIn best)) st p h v best st p h v
+  unfolding soughtIn
+  few-leaves few = stays (go (B .count - i) refl)
+    where
+      go : (n : ℕ) → B .count - i ≡ n → soughtFrom B st (B .count - i) i served s p h v (bestIn best) ≡ bestIn best
+      go zero e = rw e (visited-end stop (visitIn B st) (switchingIn B) (B .want) i served s p h v (bestIn best) ∙ rw (lt-ltb served (B .want) (omega arith)))
+      go (suc n) e = rw e (visited-short stop (visitIn B st) (switchingIn B) (B .want) n i served s p h v (bestIn best) (lt-ltb _ (B .want) (omega arith)))
 
-  pub open-leaves : (found : List ℕ) (place r : ℕ) (found′ p′ h′ : List ℕ)
-      → Leaves (listedIn from to closed total count (i + 1) served s p h) found p h place r found′ p′ h′
-      → Leaves (decidedIn from to closed total count i operate served s p h) found p h place r found′ p′ h′
-  open-leaves found place r found′ p′ h′ left = rw open-is left
+  module _ (enough : B .want ≤ served + (B .count - i)) (cost : ℕ) (cost-is : cost ≡ priceOf (B .price) i s) where
+    -- nothing behind is cheaper
+    pub dear-leaves : at best 0 ≤ cost → Leaves (soughtIn B st i served s p h v (bestIn best)) st p h v best st p h v
+    unfolding soughtIn visitIn dearer
+    dear-leaves q = stays (go (B .count - i) refl)
+      where
+        go : (n : ℕ) → B .count - i ≡ n → soughtFrom B st (B .count - i) i served s p h v (bestIn best) ≡ bestIn best
+        go zero e =
+            let f : i ≡ B .count = omega arith in
+            rw e (visited-end stop (visitIn B st) (switchingIn B) (B .want) i served s p h v (bestIn best) ∙ rw (le-ltb served (B .want) (omega arith))
+            (keep-dear (priceOf (B .price) (B .count)) fitting (bestIn best) s (omega (arith, q, cost-is, ap (λ (n : ℕ). priceOf (B .price) n s) f))))
+        go (suc n) e = rw e (visited-stops stop (visitIn B st) (switchingIn B) (B .want) n i served s p h v (bestIn best)
+            (le-ltb _ (B .want) (omega arith)) (le-leb (at best 0) (priceOf (B .price) i s) (omega (arith, q, cost-is))))
 
--- ---- a switch that ends closed
+    -- all switches are chosen
+    module _ (cheap : cost < at best 0) (last : B .count - i ≡ 0) (put : Placed B st i s) (r : Bool) (r-is : r ≡ fitsIn B st) where
+      all : i ≡ B .count
+      all = omega arith
 
-module _ (from to closed : List ℕ) (total count i : ℕ) (operate : Bool) (served s : ℕ) (p h : List ℕ)
-    (ends : differ (isIn closed i) operate ≡ true) where
-  closed-is : decidedIn from to closed total count i operate served s p h ≡ joinedIn from to closed total count i served s p h
-  unfolding decidedIn joinedIn switching
-  closed-is = deciding-closed (switching from to closed) (listed (switching from to closed) total (count - (i + 1)) (i + 1)) i operate served s p h ends
+      last-is : soughtIn B st i served s p h v (bestIn best) ≡ keep (priceOf (B .price) (B .count)) fitting (bestIn best) s
+      unfolding soughtIn visitIn
+      last-is = rw last (visited-end stop (visitIn B st) (switchingIn B) (B .want) i served s p h v (bestIn best) ∙ rw (le-ltb served (B .want) (omega arith)))
 
-  pub closed-room : (place : ℕ) → place + length (decidedIn from to closed total count i operate served s p h) ≤ 4096
-      → place + length (joinedIn from to closed total count i served s p h) ≤ 4096
-  closed-room place room = rw closed-is at room
+      price-is : priceOf (B .price) (B .count) s ≡ cost
+      price-is = ap (λ (n : ℕ). priceOf (B .price) n s) (sym all) ∙ sym cost-is
 
-  pub closed-leaves : (found : List ℕ) (place r : ℕ) (found′ p′ h′ : List ℕ)
-      → Leaves (joinedIn from to closed total count i served s p h) found p h place r found′ p′ h′
-      → Leaves (decidedIn from to closed total count i operate served s p h) found p h place r found′ p′ h′
-  closed-leaves found place r found′ p′ h′ left = rw closed-is left
+      pub failed-leaves : r ≡ false → Leaves (soughtIn B st i served s p h v (bestIn best)) st p h v best st p h v
+      failed-leaves f = stays (last-is ∙ keep-failed (priceOf (B .price) (B .count)) fitting (bestIn best) s (fits-here B st i s put all r r-is ∙ f))
+
+      taken : r ≡ true → keep (priceOf (B .price) (B .count)) fitting (bestIn best) s ≡ record { cost = cost; set = s }
+      unfolding keep
+      taken f = rw (price-is, lt-ltb cost (at best 0) cheap, fits-here B st i s put all r r-is, f, keep) (ap (λ (x : ℕ). record { cost = x; set = s }) price-is)
+
+      pub taken-leaves : r ≡ true → Leaves (soughtIn B st i served s p h v (bestIn best)) st p h v (set (set best 0 cost) 1 s) st p h v
+      taken-leaves f = (
+        ap₂ (λ (c t : ℕ). record { cost = c; set = t })
+            (getD-set-other (set best 0 cost) 1 0 s 0 (λ e. omega arith) ∙ getD-set-same best 0 cost 0 (omega (arith, lb)))
+            (getD-set-same (set best 0 cost) 1 s 0 (omega (arith, length-set best 0 cost, lb)))
+            ∙ sym (last-is ∙ taken f),
+        (length-set (set best 0 cost) 1 s ∙ length-set best 0 cost ∙ lb, (refl, (refl, (refl, refl)))),
+      )
+
+    -- the next switch, operated and not
+    next-is : (b : Best) → cost < b .cost → i < B .count
+        → soughtIn B st i served s p h v b ≡ decidedIn B st i served (2 * s) p h v (decidedIn B st i served (2 * s + 1) p h v b)
+    unfolding soughtIn decidedIn dearer
+    next-is b q k =
+        let n : B .count - i ≡ suc (B .count - suc i) = omega arith in
+        let even : (2 * s) % 2 ≡ 0 = omega arith in
+        let odd : (2 * s + 1) % 2 ≡ 1 = omega arith in
+        rw (n, add-one i, even, odd) (visited-next stop (visitIn B st) (switchingIn B) (B .want) (B .count - suc i) i served s p h v b
+        (le-ltb _ (B .want) (omega arith)) (lt-leb (b .cost) (priceOf (B .price) i s) (omega (arith, q, cost-is))))
+
+    pub both-leave : (best′ best″ st′ st″ p′ p″ h′ h″ v′ v″ : List ℕ) → cost < at best 0 → i < B .count
+        → Leaves (decidedIn B st i served (2 * s + 1) p h v (bestIn best)) st p h v best′ st′ p′ h′ v′
+        → Leaves (decidedIn B st′ i served (2 * s) p′ h′ v′ (bestIn best′)) st′ p′ h′ v′ best″ st″ p″ h″ v″
+        → Leaves (soughtIn B st i served s p h v (bestIn best)) st p h v best″ st″ p″ h″ v″
+    both-leave best′ best″ st′ st″ p′ p″ h′ h″ v′ v″ q k (a, (l, (o, (b, (c, d))))) (e, (m, (u, (f, (g, j))))) = (
+      e ∙ rw (o, b, c, d) (ap (decidedIn B st i served (2 * s) p h v) a) ∙ sym (next-is (bestIn best) q k),
+      (m, (u ∙ o, (f ∙ b, (g ∙ c, j ∙ d)))),
+    )
+
+-- ---- a switch that ends open, or closed
+
+module _ (B : Setting) (z : Settled B) (st : List ℕ) (i served s : ℕ) (p h v best : List ℕ) (k : i < B .count) (best′ st′ p′ h′ v′ : List ℕ) where
+  abbrev onward : (served s : ℕ) (parent holds spare : List ℕ) → Best → Best
+  onward = soughtFrom B st (B .count - (i + 1)) (i + 1)
+
+  pub open-leaves : B .closed i ≡ s % 2 → Leaves (soughtIn B st (i + 1) served s p h v (bestIn best)) st p h v best′ st′ p′ h′ v′
+      → Leaves (decidedIn B st i served s p h v (bestIn best)) st p h v best′ st′ p′ h′ v′
+  unfolding decidedIn soughtIn
+  open-leaves e (a, r) =
+      let ends = ends-open (B .closed i) (s % 2) (z .closed-bit i k) (omega arith) e in
+      (a ∙ sym (ap (λ (f : Best → Best). f (bestIn best)) (decides-open (switchingIn B) onward i (eqb (s % 2) 1) served s p h v ends)), r)
+
+  pub closed-leaves : (B .closed i ≡ s % 2 → ⊥) → Leaves (joinedIn B st i served s p h v (bestIn best)) st p h v best′ st′ p′ h′ v′
+      → Leaves (decidedIn B st i served s p h v (bestIn best)) st p h v best′ st′ p′ h′ v′
+  unfolding decidedIn joinedIn
+  closed-leaves e (a, r) =
+      let ends = ends-closed (B .closed i) (s % 2) (z .closed-bit i k) (omega arith) e in
+      (a ∙ sym (ap (λ (f : Best → Best). f (bestIn best)) (decides-closed (switchingIn B) onward i (eqb (s % 2) 1) served s p h v ends)), r)
 
 -- ---- a join of the parts with the roots x and y
 
-module _ (from to closed p h : List ℕ) (count i served s : ℕ) (z : Searches from to closed p h count (i + 1) served s) where
-  pub root-a-in : (x : ℕ) → x ≡ rootOf p (at from i) → x < 64
-  root-a-in x e = root-in p (z .falls) (at from i) x (z .from-in i (omega (arith, z .reached))) e
+module _ (B : Setting) (z : Settled B) (p h : List ℕ) (i served s cost : ℕ) (k : Seeks B p h (i + 1) served s cost) where
+  pub root-a-in : (x : ℕ) → x ≡ rootOf p (B .from i) → x < 64
+  root-a-in x e = root-in p (k .falls) (B .from i) x (z .from-in i (omega (arith, k .reached))) e
 
-  pub root-b-in : (y : ℕ) → y ≡ rootOf p (at to i) → y < 64
-  root-b-in y e = root-in p (z .falls) (at to i) y (z .to-in i (omega (arith, z .reached))) e
+  pub root-b-in : (y : ℕ) → y ≡ rootOf p (B .to i) → y < 64
+  root-b-in y e = root-in p (k .falls) (B .to i) y (z .to-in i (omega (arith, k .reached))) e
 
-  pub lower-in : (x y lo : ℕ) → x ≡ rootOf p (at from i) → y ≡ rootOf p (at to i) → lo ≡ min x y → lo < 64
+  pub lower-in : (x y lo : ℕ) → x ≡ rootOf p (B .from i) → y ≡ rootOf p (B .to i) → lo ≡ min x y → lo < 64
   lower-in x y lo e f g = omega (arith, root-a-in x e, root-b-in y f)
 
-  pub higher-in : (x y hi : ℕ) → x ≡ rootOf p (at from i) → y ≡ rootOf p (at to i) → hi ≡ max x y → hi < 64
+  pub higher-in : (x y hi : ℕ) → x ≡ rootOf p (B .from i) → y ≡ rootOf p (B .to i) → hi ≡ max x y → hi < 64
   higher-in x y hi e f g = omega (arith, root-a-in x e, root-b-in y f)
 
-module _ (from to closed : List ℕ) (total count i served s : ℕ) (p h : List ℕ)
-    (x y : ℕ) (root-x : x ≡ rootOf p (at from i)) (root-y : y ≡ rootOf p (at to i)) where
-  joined-is : joinedIn from to closed total count i served s p h
-      ≡ joining (listed (switching from to closed) total (count - (i + 1)) (i + 1)) x y served s p h
+  pub join-seeks : (x y lo hi w n : ℕ) → x ≡ rootOf p (B .from i) → y ≡ rootOf p (B .to i) → (x ≡ y → ⊥) → lo ≡ min x y → hi ≡ max x y
+      → n ≡ gate (serves (at h x) (at h y)) 1 → served ≤ i → Seeks B (set p hi lo) (set h lo w) (i + 1) (served + n) s cost
+  join-seeks x y lo hi w n e f d a b c few = record {
+    reached = k .reached;
+    parent-long = length-set p hi lo ∙ k .parent-long;
+    holds-long = length-set h lo w ∙ k .holds-long;
+    falls = falls-set p (k .falls) hi lo (omega arith);
+    served-few = omega (arith, gate-le (serves (at h x) (at h y)) 1);
+    set-in = k .set-in;
+    cost-is = k .cost-is;
+  }
+
+module _ (B : Setting) (st : List ℕ) (i served s : ℕ) (p h v best : List ℕ) (lb : length best ≡ 2) (x y : ℕ)
+    (root-x : x ≡ rootOf p (B .from i)) (root-y : y ≡ rootOf p (B .to i)) where
+  abbrev further : (served s : ℕ) (parent holds spare : List ℕ) → Best → Best
+  further = soughtFrom B st (B .count - (i + 1)) (i + 1)
+
+  joined-is : joinedIn B st i served s p h v (bestIn best) ≡ joining further x y served s p h v (bestIn best)
   unfolding joinedIn
   joined-is = rw (root-x, root-y)
 
-  pub loop-leaves : (found : List ℕ) (place : ℕ) → x ≡ y
-      → Leaves (joinedIn from to closed total count i served s p h) found p h place place found p h
-  loop-leaves found place e = leaves-none _ found p h place (joined-is ∙ joining-loop _ x y served s p h (eq-eqb x y e))
+  stopped : joining further x y served s p h v ≡ (λ d. d) → Leaves (joinedIn B st i served s p h v (bestIn best)) st p h v best st p h v
+  stopped e = (sym (joined-is ∙ ap (λ (f : Best → Best). f (bestIn best)) e), (lb, (refl, (refl, (refl, refl)))))
 
-  pub clash-leaves : (found : List ℕ) (place : ℕ) → (x ≡ y → ⊥) → clash (at h x) (at h y) ≡ true
-      → Leaves (joinedIn from to closed total count i served s p h) found p h place place found p h
-  clash-leaves found place e k = leaves-none _ found p h place (joined-is ∙ joining-clash _ x y served s p h (ne-eqb x y e) k)
+  pub loop-leaves : x ≡ y → Leaves (joinedIn B st i served s p h v (bestIn best)) st p h v best st p h v
+  loop-leaves e = stopped (joins-loop further x y served s p h v (eq-eqb x y e))
 
-  module _ (apart : x ≡ y → ⊥) (agree : clash (at h x) (at h y) ≡ false) (lo hi v n : ℕ) (lo-is : lo ≡ min x y) (hi-is : hi ≡ max x y)
-      (v-is : v ≡ together (at h x) (at h y)) (n-is : n ≡ gate (serves (at h x) (at h y)) 1) where
-    join-is : joinedIn from to closed total count i served s p h
-        ≡ listedIn from to closed total count (i + 1) (served + n) s (set p hi lo) (set h lo v)
-    unfolding listedIn
-    join-is = rw (lo-is, hi-is, v-is, n-is) (joined-is ∙ joining-on _ x y served s p h (ne-eqb x y apart) agree)
+  pub clash-leaves : (x ≡ y → ⊥) → clash (at h x) (at h y) ≡ true → Leaves (joinedIn B st i served s p h v (bestIn best)) st p h v best st p h v
+  clash-leaves e c = stopped (joins-clash further x y served s p h v (ne-eqb x y e) c)
 
-    pub join-room : (place : ℕ) → place + length (joinedIn from to closed total count i served s p h) ≤ 4096
-        → place + length (listedIn from to closed total count (i + 1) (served + n) s (set p hi lo) (set h lo v)) ≤ 4096
-    join-room place room = rw join-is at room
+  pub heavy-leaves : (x ≡ y → ⊥) → clash (at h x) (at h y) ≡ false → not (bears (at h x) (at h y) (at v x) (at v y)) ≡ true
+      → Leaves (joinedIn B st i served s p h v (bestIn best)) st p h v best st p h v
+  heavy-leaves e c b = stopped (joins-heavy further x y served s p h v (ne-eqb x y e) c (not-true _ b))
 
-    -- the two stores are taken back: the higher root is its own parent again, and the lower one holds what it held
-    module _ (z : Searches from to closed p h count (i + 1) served s) where
-      root-again : at p hi ≡ hi
-      root-again = go (ltb x y) refl
-        where
-          go : (t : Bool) → ltb x y ≡ t → at p hi ≡ hi
-          go true t =
-              let e : hi ≡ rootOf p (at to i) = omega (arith, ltb-true x y t) in
-              rw e (root-is p (z .falls) (at to i))
-          go false t =
-              let e : hi ≡ rootOf p (at from i) = omega (arith, ltb-false x y t) in
-              rw e (root-is p (z .falls) (at from i))
+  module _ (apart : x ≡ y → ⊥) (agree : clash (at h x) (at h y) ≡ false) (fits : bears (at h x) (at h y) (at v x) (at v y) ≡ true)
+      (lo hi w n u : ℕ) (lo-is : lo ≡ min x y) (hi-is : hi ≡ max x y)
+      (w-is : w ≡ together (at h x) (at h y)) (n-is : n ≡ gate (serves (at h x) (at h y)) 1)
+      (u-is : u ≡ carriedOn (at h x) (at h y) (at v x) (at v y)) where
+    join-is : joinedIn B st i served s p h v (bestIn best) ≡ soughtIn B st (i + 1) (served + n) s (set p hi lo) (set h lo w) (set v lo u) (bestIn best)
+    unfolding soughtIn
+    join-is = rw (lo-is, hi-is, w-is, n-is, u-is)
+        (joined-is ∙ ap (λ (f : Best → Best). f (bestIn best)) (joins-on further x y served s p h v (ne-eqb x y apart) agree fits))
 
-      pub join-undone : (found : List ℕ) (place r : ℕ) (found′ p′ h′ : List ℕ) (own old : ℕ) → own ≡ hi → old ≡ at h lo
-          → Leaves (listedIn from to closed total count (i + 1) (served + n) s (set p hi lo) (set h lo v)) found (set p hi lo) (set h lo v)
-          place r found′ p′ h′
-          → Leaves (joinedIn from to closed total count i served s p h) found p h place r found′ (set p′ hi own) (set h′ lo old)
-      join-undone found place r found′ p′ h′ own old e f (a, (b, (c, d))) = (
-        rw join-is a,
+    -- the four stores are taken back
+    pub join-undone : (z : Settled B) (cost : ℕ) → Seeks B p h (i + 1) served s cost → Placed B st i (s / 2) → i < B .count
+        → (best′ st′ p′ h′ v′ : List ℕ) (own old rest off : ℕ) → own ≡ hi → old ≡ at h lo → rest ≡ at v lo → off ≡ 0
+        → Leaves (soughtIn B (set st (B .link i) 1) (i + 1) (served + n) s (set p hi lo) (set h lo w) (set v lo u) (bestIn best))
+        (set st (B .link i) 1) (set p hi lo) (set h lo w) (set v lo u) best′ st′ p′ h′ v′
+        → Leaves (joinedIn B st i served s p h v (bestIn best)) st p h v best′ (set st′ (B .link i) off) (set p′ hi own) (set h′ lo old) (set v′ lo rest)
+    join-undone z cost k put b best′ st′ p′ h′ v′ own old rest off e f g o (a, (l, (t, (c, (d, m))))) = (
+      a ∙ sought-over B z st i s put b (i + 1) (served + n) s (set p hi lo) (set h lo w) (set v lo u) (bestIn best) ∙ sym join-is,
+      (
+        l,
         (
-          rw join-is b,
+          state-undone B z st i s put b st′ off o t,
           (
-            ap (λ l. set l hi own) c ∙ set-set p hi lo own ∙ ap (set p hi) (e ∙ sym root-again) ∙ set-getD p hi 0,
-            ap (λ l. set l lo old) d ∙ set-set h lo v old ∙ ap (set h lo) f ∙ set-getD h lo 0,
+            ap (λ (xs : List ℕ). set xs hi own) c ∙ set-set p hi lo own ∙ ap (set p hi) (e ∙ sym root-again) ∙ set-getD p hi 0,
+            (
+              ap (λ (xs : List ℕ). set xs lo old) d ∙ set-set h lo w old ∙ ap (set h lo) f ∙ set-getD h lo 0,
+              ap (λ (xs : List ℕ). set xs lo rest) m ∙ set-set v lo u rest ∙ ap (set v lo) g ∙ set-getD v lo 0,
+            ),
           ),
         ),
-      )
-
-      pub join-searches : served ≤ i → Searches from to closed (set p hi lo) (set h lo v) count (i + 1) (served + n) s
-      join-searches few = record {
-        fit = z .fit;
-        reached = z .reached;
-        from-long = z .from-long;
-        to-long = z .to-long;
-        closed-long = z .closed-long;
-        parent-long = length-set p hi lo ∙ z .parent-long;
-        holds-long = length-set h lo v ∙ z .holds-long;
-        from-in = z .from-in;
-        to-in = z .to-in;
-        falls = falls-set p (z .falls) hi lo (omega arith);
-        served-few = omega (arith, gate-le (serves (at h x) (at h y)) 1);
-        set-in = z .set-in;
-      }
+      ),
+    )
+      where
+        -- the higher root was its own parent
+        root-again : at p hi ≡ hi
+        root-again = go (ltb x y) refl
+          where
+            go : (t : Bool) → ltb x y ≡ t → at p hi ≡ hi
+            go true t =
+                let q : hi ≡ rootOf p (B .to i) = omega (arith, ltb-true x y t) in
+                rw q (root-is p (k .falls) (B .to i))
+            go false t =
+                let q : hi ≡ rootOf p (B .from i) = omega (arith, ltb-false x y t) in
+                rw q (root-is p (k .falls) (B .from i))

@@ -1,46 +1,77 @@
--- What the functions of this crate compute over arrays, in the words of `planning`.
+-- What the search computes over arrays, in the words of `carrying`. Internal: what the arrays hold.
 -- Assumes nothing.
 use mathlib.Core.Path.{_≡_}
-use mathlib.Core.Bool.{Bool, true, false}
-use mathlib.Core.List.{List, [], _∷_}
-use Prim.Native.Nat.{ℕ, _+_, _-_, _^_, _<_, _≤_}
+use mathlib.Core.Bool.{Bool}
+use mathlib.Core.List.{List}
+use Prim.Native.Nat.{ℕ, _+_, _-_, _%_, _^_, _<_, _≤_}
 use lib.Dec.{eqb}
 use lib.ListN.{length}
-use Rattle.feeding.specs.Networks.{at, isIn}
+use Rattle.feeding.specs.Below.{allTo}
+use Rattle.feeding.specs.Loads.{withinFrom?}
+use Rattle.feeding.specs.Networks.{at}
+use Rattle.feeding.specs.Parts.{closedIn}
 use Rattle.parts.specs.Labelling.{Falls, rootOf}
-use Rattle.planning.specs.Candidates.{Switching, listed, deciding, joining}
+use Rattle.packing.specs.Packing.{PackedLent, packedGrid}
+use Rattle.planning.specs.declared.Best.{Best}
+use Rattle.carrying.specs.Searching.{Switching, deciding, joining, visited, dearer}
+use Rattle.planning.specs.Sets.{keep, priceOf}
+use Rattle.switches.specs.Switches.{withSet}
+use Rattle.setting.specs.Setting.{Setting}
 
--- the switches that arrays hold
-unfoldable pub switching : (from to closed : List ℕ) → Switching
-switching from to closed = record { endA = at from; endB = at to; closed = isIn closed }
+-- the best set so far in an array: its cost, its number
+abbrev pub bestIn : List ℕ → Best
+bestIn xs = record { cost = at xs 0; set = at xs 1 }
 
--- the set s, where all the parts that waited are served
-unfoldable pub servedIn : (total served s : ℕ) → List ℕ
-servedIn total served s = elim (eqb served total) [ true ↦ s ∷ [] | false ↦ [] ]
+-- the walk from source j meets no element above its capacity
+abbrev pub sourceFits : Setting → (states : List ℕ) → ℕ → Bool
+sourceFits B states j =
+    withinFrom? (packedGrid (B .elements) (B .links) (B .chain) (B .rating)) (closedIn states) (B .source j)
 
--- the sets that are listed from switch i of `count` on, those with switch i decided, and those with it closed
-unfoldable pub listedIn : (from to closed : List ℕ) (total count i served s : ℕ) (parent holds : List ℕ) → List ℕ
-listedIn from to closed total count i served s parent holds = listed (switching from to closed) total (count - i) i served s parent holds
+-- the loads stay within capacity in these states
+unfoldable pub fitsIn : Setting → (states : List ℕ) → Bool
+fitsIn B states = allTo (B .sources) (sourceFits B states)
 
-unfoldable pub decidedIn : (from to closed : List ℕ) (total count i : ℕ) (operate : Bool) (served s : ℕ) (parent holds : List ℕ) → List ℕ
-decidedIn from to closed total count i operate served s parent holds =
-    deciding (switching from to closed) (listed (switching from to closed) total (count - (i + 1)) (i + 1)) i operate served s parent holds
+-- the states after the first n switches are put as the set s says
+abbrev pub statesBy : Setting → (n s : ℕ) → List ℕ → List ℕ
+statesBy B n s states = withSet (B .link) (B .closed) n s states
 
-unfoldable pub joinedIn : (from to closed : List ℕ) (total count i served s : ℕ) (parent holds : List ℕ) → List ℕ
-joinedIn from to closed total count i served s parent holds =
-    joining (listed (switching from to closed) total (count - (i + 1)) (i + 1)) (rootOf parent (at from i)) (rootOf parent (at to i)) served s parent holds
+-- a whole set in the place of the best one, where it is cheaper and fits
+unfoldable pub visitIn : Setting → (states : List ℕ) → Best → ℕ → Best
+visitIn B states = keep (priceOf (B .price) (B .count)) (λ s. fitsIn B (statesBy B (B .count) s states))
 
--- a search stands at switch i of at most 12: the ends are elements, parents fall, and the numbers fit
-pub record Searches (from to closed parent holds : List ℕ) (count i served s : ℕ) : Type 0 where
-  pub fit : count ≤ 12
-  pub reached : i ≤ count
-  pub from-long : length from ≡ 16
-  pub to-long : length to ≡ 16
-  pub closed-long : length closed ≡ 16
+abbrev pub switchingIn : Setting → Switching
+switchingIn B = record { endA = B .from; endB = B .to; closed = λ i. eqb (B .closed i) 1 }
+
+-- the search with n switches left, from switch i on
+abbrev pub soughtFrom : Setting → (states : List ℕ) (n i served s : ℕ) (parent holds spare : List ℕ) → Best → Best
+soughtFrom B states n i served s parent holds spare =
+    visited (dearer (priceOf (B .price))) (visitIn B states) (switchingIn B) (B .want) n i served s parent holds spare
+
+unfoldable pub soughtIn : Setting → (states : List ℕ) (i served s : ℕ) (parent holds spare : List ℕ) → Best → Best
+soughtIn B states i served s parent holds spare = soughtFrom B states (B .count - i) i served s parent holds spare
+
+-- with switch i as the last choice of s says, and with it closed
+unfoldable pub decidedIn : Setting → (states : List ℕ) (i served s : ℕ) (parent holds spare : List ℕ) → Best → Best
+decidedIn B states i served s parent holds spare =
+    deciding (switchingIn B) (soughtFrom B states (B .count - (i + 1)) (i + 1)) i (eqb (s % 2) 1) served s parent holds spare
+
+unfoldable pub joinedIn : Setting → (states : List ℕ) (i served s : ℕ) (parent holds spare : List ℕ) → Best → Best
+joinedIn B states i served s parent holds spare =
+    joining (soughtFrom B states (B .count - (i + 1)) (i + 1)) (rootOf parent (B .from i)) (rootOf parent (B .to i)) served s parent holds spare
+
+-- a search stands at switch i: parents fall, the numbers fit, and the cost is that of the choices so far
+pub record Seeks (B : Setting) (parent holds : List ℕ) (i served s cost : ℕ) : Type 0 where
+  pub reached : i ≤ B .count
   pub parent-long : length parent ≡ 64
   pub holds-long : length holds ≡ 64
-  pub from-in : (j : ℕ) → j < count → at from j < 64
-  pub to-in : (j : ℕ) → j < count → at to j < 64
   pub falls : Falls parent
   pub served-few : served ≤ i
   pub set-in : s < 2 ^ i
+  pub cost-is : cost ≡ priceOf (B .price) i s
+
+-- the states are those that the choices s for the first i switches leave, and the switches ahead are open; the walk's arrays serve the states of any set
+pub record Placed (B : Setting) (states : List ℕ) (i s : ℕ) : Type 0 where
+  pub long : length states ≡ 96
+  pub chosen : statesBy B i s states ≡ states
+  pub ahead : (j : ℕ) → i ≤ j → j < B .count → at states (B .link j) ≡ 0
+  pub lent : (t : ℕ) → PackedLent (B .chain) (statesBy B (B .count) t states) (B .rating) (B .elements) (B .links)

@@ -1,14 +1,22 @@
-// The sets of operable switches behind the choices so far, in the set order: a recursion over the switches that carries the parts along and
-// stops where no set can follow.
+// The cheapest set of switches, by a search that carries the parts, what they ask, the states and the best set so far along, and walks the loads where a set
+// is whole. In its functions `fix` is the packed setting, `ends` and `rate` are the walk's arrays, `on` has the states of the links, `up` the parents of the
+// parts, `has` what each part holds, `spare` its number, and `fed` says how many parts no longer wait.
+use capacity::within_from;
 use holdings::clashing;
 use holdings::held_together;
 use holdings::served_by;
 use parts::root;
+use supply::carried_on;
+use supply::overburdened;
 ghost use mathlib.Core.Path.{_≡_};
-ghost use Prim.Native.Nat.{_+_, _<_, _≤_, min, max};
+ghost use Prim.Native.Nat.{_+_, _/_, _%_, _<_, _≤_, min, max};
 ghost use lib.ListN.{length};
-ghost use lib.Seq.{sets};
-ghost use Rattle.search.specs.Searching.{Searches, servedIn, listedIn, decidedIn, joinedIn};
+ghost use Rattle.feeding.specs.Networks.{at};
+ghost use Rattle.packing.specs.Packing.{PackedLent};
+ghost use Rattle.switches.specs.Switches.{turned};
+ghost use Rattle.setting.specs.Setting.{Settled, settingIn};
+ghost use Rattle.supply.specs.Supply.{Light};
+ghost use Rattle.search.specs.Searching.{Seeks, Placed, bestIn, fitsIn, soughtIn, decidedIn, joinedIn};
 
 fn lower(x: usize, y: usize) -> usize
     ensures { λ r. ⌜ r ≡ min x y ⌝ }
@@ -28,192 +36,172 @@ fn higher(x: usize, y: usize) -> usize
     x
 }
 
-// Behind the last switch: the set, where every part that waited is served.
-fn list_served(found: &mut [u16; 4096], at: usize, total: usize, served: usize, set: usize) -> usize
-    requires { ⌜ set < 4096 ⌝ }
-    requires { ⌜ at + length (servedIn total served set) ≤ 4096 ⌝ }
-    ensures { λ r. ⌜ r ≡ at + length (servedIn total served set) ⌝ }
-    ensures { λ _. ⌜ now (found .exit) ≡ sets (now (found .entry)) at (servedIn total served set) ⌝ }
+// Whether the loads stay within capacity in these states: a walk from each source.
+fn loads_fit<'a>(
+    fix: &'a [u32; 160],
+    ends: &'a [u8; 448],
+    rate: &'a [u32; 128],
+    on: &'a [u8; 96],
+) -> bool
+    requires { ⌜ Settled (settingIn (now fix) (now ends) (now rate)) ⌝ }
+    requires { ⌜ PackedLent (now ends) (now on) (now rate) (at (now fix) 147) (at (now fix) 148) ⌝ }
+    ensures { λ r. ⌜ r ≡ fitsIn (settingIn (now (fix .entry)) (now (ends .entry)) (now (rate .entry))) (now (on .entry)) ⌝ }
 {
-    if served == total {
-        found[at] = set as u16;
-        return at + 1;
+    let sources = fix[146] as usize;
+    let elements = fix[147] as usize;
+    let links = fix[148] as usize;
+    let mut j: usize = 0;
+    while j < sources {
+        let s = fix[80 + j] as usize;
+        if !within_from(ends, on, rate, elements, links, s) {
+            return false;
+        }
+        j += 1;
     }
-    at
+    true
 }
 
-// The sets behind the choices `set` for the first i switches, into `found` from `at` on.
-pub fn list_sets<'a>(
-    from: &'a [u8; 16],
-    to: &'a [u8; 16],
-    closed: &'a [u8; 16],
-    count: usize,
-    total: usize,
-    parent: &mut [u8; 64],
-    holds: &mut [u8; 64],
-    found: &mut [u16; 4096],
-    at: usize,
+// The sets behind the choices `set` for the first i switches, which cost `cost`: each in the place of the best one, where it is cheaper and its loads fit.
+pub fn seek<'a>(
+    fix: &'a [u32; 160],
+    ends: &'a [u8; 448],
+    rate: &'a [u32; 128],
+    on: &mut [u8; 96],
+    up: &mut [u8; 64],
+    has: &mut [u8; 64],
+    spare: &mut [u64; 64],
+    best: &mut [u64; 2],
     i: usize,
-    served: usize,
+    fed: usize,
     set: usize,
-) -> usize
-    requires { ⌜ Searches (now from) (now to) (now closed) (now parent) (now holds) count i served set ⌝ }
-    requires { ⌜ at + length (listedIn (now from) (now to) (now closed) total count i served set (now parent) (now holds)) ≤ 4096 ⌝ }
-    ensures { λ r. ⌜ r ≡ at + length (listedIn (now (from .entry)) (now (to .entry)) (now (closed .entry)) total count i served set (now (parent .entry)) (now (holds .entry))) ⌝ }
-    ensures { λ _. ⌜ now (found .exit) ≡ sets (now (found .entry)) at (listedIn (now (from .entry)) (now (to .entry)) (now (closed .entry)) total count i served set (now (parent .entry)) (now (holds .entry))) ⌝ }
-    ensures { λ _. ⌜ now (parent .exit) ≡ now (parent .entry) ⌝ }
-    ensures { λ _. ⌜ now (holds .exit) ≡ now (holds .entry) ⌝ }
+    cost: u64,
+)
+    requires { ⌜ Settled (settingIn (now fix) (now ends) (now rate)) ⌝ }
+    requires { ⌜ Seeks (settingIn (now fix) (now ends) (now rate)) (now up) (now has) i fed set cost ⌝ }
+    requires { ⌜ Placed (settingIn (now fix) (now ends) (now rate)) (now on) i set ⌝ }
+    requires { ⌜ Light (now spare) i ⌝ }
+    requires { ⌜ length (now best) ≡ 2 ⌝ }
+    ensures { λ _. ⌜ bestIn (now (best .exit)) ≡ soughtIn (settingIn (now (fix .entry)) (now (ends .entry)) (now (rate .entry))) (now (on .entry)) i fed set (now (up .entry)) (now (has .entry)) (now (spare .entry)) (bestIn (now (best .entry))) ⌝ }
+    ensures { λ _. ⌜ length (now (best .exit)) ≡ 2 ⌝ }
+    ensures { λ _. ⌜ now (on .exit) ≡ now (on .entry) ⌝ }
+    ensures { λ _. ⌜ now (up .exit) ≡ now (up .entry) ⌝ }
+    ensures { λ _. ⌜ now (has .exit) ≡ now (has .entry) ⌝ }
+    ensures { λ _. ⌜ now (spare .exit) ≡ now (spare .entry) ⌝ }
 {
-    if i == count {
-        return list_served(found, at, total, served, set);
+    let left = fix[144] as usize - i;
+    if fed + left < fix[145] as usize {
+        return;
     }
-    if served + (count - i) < total {
-        return at;
+    if best[0] <= cost {
+        return;
     }
-    let next = decide(
-        from,
-        to,
-        closed,
-        count,
-        total,
-        parent,
-        holds,
-        found,
-        at,
-        i,
-        true,
-        served,
-        2 * set + 1,
-    );
-    decide(
-        from,
-        to,
-        closed,
-        count,
-        total,
-        parent,
-        holds,
-        found,
-        next,
-        i,
-        false,
-        served,
-        2 * set,
-    )
+    if left == 0 {
+        if loads_fit(fix, ends, rate, on) {
+            best[0] = cost;
+            best[1] = set as u64;
+        }
+        return;
+    }
+    let t = 2 * set;
+    let s = t + 1;
+    let more = cost + fix[64 + i] as u64;
+    decide(fix, ends, rate, on, up, has, spare, best, i, fed, s, more);
+    decide(fix, ends, rate, on, up, has, spare, best, i, fed, t, cost)
 }
 
-// With switch i operated, or left as it was.
+// With switch i operated, or left as it was: the lowest bit of the set says which.
 fn decide<'a>(
-    from: &'a [u8; 16],
-    to: &'a [u8; 16],
-    closed: &'a [u8; 16],
-    count: usize,
-    total: usize,
-    parent: &mut [u8; 64],
-    holds: &mut [u8; 64],
-    found: &mut [u16; 4096],
-    at: usize,
+    fix: &'a [u32; 160],
+    ends: &'a [u8; 448],
+    rate: &'a [u32; 128],
+    on: &mut [u8; 96],
+    up: &mut [u8; 64],
+    has: &mut [u8; 64],
+    spare: &mut [u64; 64],
+    best: &mut [u64; 2],
     i: usize,
-    operate: bool,
-    served: usize,
+    fed: usize,
     set: usize,
-) -> usize
-    requires { ⌜ Searches (now from) (now to) (now closed) (now parent) (now holds) count (i + 1) served set ⌝ }
-    requires { ⌜ served ≤ i ⌝ }
-    requires { ⌜ at + length (decidedIn (now from) (now to) (now closed) total count i operate served set (now parent) (now holds)) ≤ 4096 ⌝ }
-    ensures { λ r. ⌜ r ≡ at + length (decidedIn (now (from .entry)) (now (to .entry)) (now (closed .entry)) total count i operate served set (now (parent .entry)) (now (holds .entry))) ⌝ }
-    ensures { λ _. ⌜ now (found .exit) ≡ sets (now (found .entry)) at (decidedIn (now (from .entry)) (now (to .entry)) (now (closed .entry)) total count i operate served set (now (parent .entry)) (now (holds .entry))) ⌝ }
-    ensures { λ _. ⌜ now (parent .exit) ≡ now (parent .entry) ⌝ }
-    ensures { λ _. ⌜ now (holds .exit) ≡ now (holds .entry) ⌝ }
+    cost: u64,
+)
+    requires { ⌜ Settled (settingIn (now fix) (now ends) (now rate)) ⌝ }
+    requires { ⌜ Seeks (settingIn (now fix) (now ends) (now rate)) (now up) (now has) (i + 1) fed set cost ⌝ }
+    requires { ⌜ Placed (settingIn (now fix) (now ends) (now rate)) (now on) i (set / 2) ⌝ }
+    requires { ⌜ fed ≤ i ⌝ }
+    requires { ⌜ Light (now spare) i ⌝ }
+    requires { ⌜ length (now best) ≡ 2 ⌝ }
+    ensures { λ _. ⌜ bestIn (now (best .exit)) ≡ decidedIn (settingIn (now (fix .entry)) (now (ends .entry)) (now (rate .entry))) (now (on .entry)) i fed set (now (up .entry)) (now (has .entry)) (now (spare .entry)) (bestIn (now (best .entry))) ⌝ }
+    ensures { λ _. ⌜ length (now (best .exit)) ≡ 2 ⌝ }
+    ensures { λ _. ⌜ now (on .exit) ≡ now (on .entry) ⌝ }
+    ensures { λ _. ⌜ now (up .exit) ≡ now (up .entry) ⌝ }
+    ensures { λ _. ⌜ now (has .exit) ≡ now (has .entry) ⌝ }
+    ensures { λ _. ⌜ now (spare .exit) ≡ now (spare .entry) ⌝ }
 {
-    let shut = closed[i] == 1;
-    if shut == operate {
-        return list_sets(
-            from,
-            to,
-            closed,
-            count,
-            total,
-            parent,
-            holds,
-            found,
-            at,
-            i + 1,
-            served,
-            set,
-        );
+    if fix[32 + i] as usize == set % 2 {
+        let k = i + 1;
+        seek(fix, ends, rate, on, up, has, spare, best, k, fed, set, cost);
+        return;
     }
-    join(
-        from,
-        to,
-        closed,
-        count,
-        total,
-        parent,
-        holds,
-        found,
-        at,
-        i,
-        served,
-        set,
-    )
+    join(fix, ends, rate, on, up, has, spare, best, i, fed, set, cost)
 }
 
-// With switch i closed: stops at a loop or a clash, and takes the join back after the sets below it.
+// With switch i closed: stops at a loop, a clash or too much load, and takes the join back after the sets below it.
 fn join<'a>(
-    from: &'a [u8; 16],
-    to: &'a [u8; 16],
-    closed: &'a [u8; 16],
-    count: usize,
-    total: usize,
-    parent: &mut [u8; 64],
-    holds: &mut [u8; 64],
-    found: &mut [u16; 4096],
-    at: usize,
+    fix: &'a [u32; 160],
+    ends: &'a [u8; 448],
+    rate: &'a [u32; 128],
+    on: &mut [u8; 96],
+    up: &mut [u8; 64],
+    has: &mut [u8; 64],
+    spare: &mut [u64; 64],
+    best: &mut [u64; 2],
     i: usize,
-    served: usize,
+    fed: usize,
     set: usize,
-) -> usize
-    requires { ⌜ Searches (now from) (now to) (now closed) (now parent) (now holds) count (i + 1) served set ⌝ }
-    requires { ⌜ served ≤ i ⌝ }
-    requires { ⌜ at + length (joinedIn (now from) (now to) (now closed) total count i served set (now parent) (now holds)) ≤ 4096 ⌝ }
-    ensures { λ r. ⌜ r ≡ at + length (joinedIn (now (from .entry)) (now (to .entry)) (now (closed .entry)) total count i served set (now (parent .entry)) (now (holds .entry))) ⌝ }
-    ensures { λ _. ⌜ now (found .exit) ≡ sets (now (found .entry)) at (joinedIn (now (from .entry)) (now (to .entry)) (now (closed .entry)) total count i served set (now (parent .entry)) (now (holds .entry))) ⌝ }
-    ensures { λ _. ⌜ now (parent .exit) ≡ now (parent .entry) ⌝ }
-    ensures { λ _. ⌜ now (holds .exit) ≡ now (holds .entry) ⌝ }
+    cost: u64,
+)
+    requires { ⌜ Settled (settingIn (now fix) (now ends) (now rate)) ⌝ }
+    requires { ⌜ Seeks (settingIn (now fix) (now ends) (now rate)) (now up) (now has) (i + 1) fed set cost ⌝ }
+    requires { ⌜ Placed (settingIn (now fix) (now ends) (now rate)) (now on) i (set / 2) ⌝ }
+    requires { ⌜ (fed ≤ i) × (turned (at (now fix) (32 + i)) (set % 2) ≡ 1) ⌝ }
+    requires { ⌜ Light (now spare) i ⌝ }
+    requires { ⌜ length (now best) ≡ 2 ⌝ }
+    ensures { λ _. ⌜ bestIn (now (best .exit)) ≡ joinedIn (settingIn (now (fix .entry)) (now (ends .entry)) (now (rate .entry))) (now (on .entry)) i fed set (now (up .entry)) (now (has .entry)) (now (spare .entry)) (bestIn (now (best .entry))) ⌝ }
+    ensures { λ _. ⌜ length (now (best .exit)) ≡ 2 ⌝ }
+    ensures { λ _. ⌜ now (on .exit) ≡ now (on .entry) ⌝ }
+    ensures { λ _. ⌜ now (up .exit) ≡ now (up .entry) ⌝ }
+    ensures { λ _. ⌜ now (has .exit) ≡ now (has .entry) ⌝ }
+    ensures { λ _. ⌜ now (spare .exit) ≡ now (spare .entry) ⌝ }
 {
-    let a = from[i] as usize;
-    let b = to[i] as usize;
-    let x = root(parent, a);
-    let y = root(parent, b);
+    let x = root(up, fix[i] as usize);
+    let y = root(up, fix[16 + i] as usize);
     if x == y {
-        return at;
+        return;
     }
-    let p = holds[x];
-    let q = holds[y];
+    let p = has[x];
+    let q = has[y];
     if clashing(p, q) {
-        return at;
+        return;
+    }
+    let u = spare[x];
+    let v = spare[y];
+    if overburdened(p, q, u, v) {
+        return;
     }
     let lo = lower(x, y);
     let hi = higher(x, y);
-    let old = holds[lo];
-    parent[hi] = lo as u8;
-    holds[lo] = held_together(p, q);
-    let next = list_sets(
-        from,
-        to,
-        closed,
-        count,
-        total,
-        parent,
-        holds,
-        found,
-        at,
-        i + 1,
-        served + served_by(p, q),
-        set,
-    );
-    parent[hi] = hi as u8;
-    holds[lo] = old;
-    next
+    let l = fix[48 + i] as usize;
+    let old = has[lo];
+    let rest = spare[lo];
+    let sum = fed + served_by(p, q);
+    let k = i + 1;
+    up[hi] = lo as u8;
+    has[lo] = held_together(p, q);
+    spare[lo] = carried_on(p, q, u, v);
+    on[l] = 1;
+    seek(fix, ends, rate, on, up, has, spare, best, k, sum, set, cost);
+    up[hi] = hi as u8;
+    has[lo] = old;
+    spare[lo] = rest;
+    on[l] = 0;
 }

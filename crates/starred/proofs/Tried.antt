@@ -18,7 +18,7 @@ use Rattle.feeding.specs.Restoration.{spoiled?, clean, restorable?, waits?, ope
 use Rattle.feeding.specs.Plans.{put, run, costOf, sweep, printedForm, flip, setCost}
 use Rattle.feeding.specs.Acceptance.{brokenAt, safety, limited, andThen, acceptance}
 use Rattle.acceptance.specs.Reading.{handedOut, acceptedFrom, acceptedRead}
-use Rattle.planning.specs.Choosing.{works?, firstIf, cheaper, best, planned}
+use Rattle.planning.specs.Choosing.{works?, firstIf, noDearer, better, best, planned}
 use Rattle.sums.specs.Sums.{sumsAfter}
 use Rattle.plan_file.specs.PlanFiles.{emptyPlan, withStep, planEndOn, stepsOn, planFile}
 use Rattle.plan_file.specs.Inputs.{planInput}
@@ -41,7 +41,7 @@ unfolding emptyNetwork nextStage word lengthOf frameRules headRules elementRules
     those tabulate gridOf netOf touches far relabel merge link labels label joined? sound? live? leads elementLoad above elementOver
     lowestOver loopAt looped? paired? faultLive? treePlace pairPlace faultPlace safe? spoiled? clean restorable? waits? operable? operables
     restored? fedLoad darkLoad lostLoad put run costOf sweep printedForm flip setCost brokenAt safety limited andThen acceptance handedOut
-    acceptedFrom acceptedRead works? firstIf cheaper best planned sumsAfter emptyPlan withOne planWith endBytes digits decimal field planLine
+    acceptedFrom acceptedRead works? firstIf noDearer better best planned sumsAfter emptyPlan withOne planWith endBytes digits decimal field planLine
     stepLine stepLines loadLine planLines noneLines refusedLine plannedBy unplanned outcomeFrom outcomeOf outcomeAnswered outcomeRead
     outcome linesWith linesOf withStep planEndOn stepsOn planFile planInput planBehind bothInput bothRead stepsTo stepsOf examined firstBad
     stepExamined stepsExamined darkPlace scoredBy markAt markAfter markBy costIn cheapestCost markOf lineOf markLine markAccepted markRead markOfRead

@@ -6,7 +6,7 @@ use mathlib.Core.Bool.{Bool, true, false, cond, _||_}
 use mathlib.Core.List.{List}
 use lib.Dec.{eqb, ltb}
 use lib.ListN.{length, set, replicate, length-set, length-replicate, getD-replicate, List·getD-eq-default}
-use lib.Seq.{getD-set-same, getD-set-other}
+use lib.Seq.{getD-set-same, getD-set-other, set-set}
 use borrow.Author.Tests.{eqb-true, eqb-false, ltb-true, ltb-false, lt-ltb}
 use native.Mathlib.Omega.{arith}
 use Rattle.network.specs.declared.Network.{Network}
@@ -19,13 +19,13 @@ use Rattle.feeding.proofs.Bits.{isIn-bits}
 use Rattle.feeding.proofs.Lows.{those-in, those-out, those-rising, those-ext}
 use Rattle.feeding.proofs.Tests.{operable?-out}
 use Rattle.feeding.proofs.Views.{formed-net}
-use Rattle.planning.specs.Sets.{setOf, priceOf, switchesOf}
+use Rattle.planning.specs.Sets.{setOf, priceOf, setIn, switchesOf}
 use Rattle.planning.proofs.Rising.{at-member, member-at, at-rising}
-use Rattle.planning.proofs.Scans.{price-cost}
+use Rattle.planning.proofs.Prices.{price-cost}
 use Rattle.sets.specs.Sets.{members}
 use Rattle.switches.specs.declared.Switches.{Switches}
 use Rattle.switches.specs.Switches.{SwitchReach, column, switchList, turned, withSet}
-use Rattle.switches.proofs.Turns.{length-column, at-column}
+use Rattle.switches.proofs.Turns.{length-column, at-column, states-set}
 
 -- ---- bits
 
@@ -46,7 +46,7 @@ differ-false false = refl
 
 -- ---- a switch turned over
 
-turned-differ : (closed b : ℕ) → closed ≤ 1 → b ≤ 1 → eqb (turned closed b) 1 ≡ differ (eqb closed 1) (eqb b 1)
+pub turned-differ : (closed b : ℕ) → closed ≤ 1 → b ≤ 1 → eqb (turned closed b) 1 ≡ differ (eqb closed 1) (eqb b 1)
 unfolding turned
 turned-differ zero zero h k = refl
 turned-differ zero (suc zero) h k = refl
@@ -62,7 +62,18 @@ pub length-states : (link closed : ℕ → ℕ) (n s : ℕ) (states : List ℕ) 
 unfolding withSet
 length-states link closed zero s states = refl
 length-states link closed (suc n) s states =
-    length-states link closed n (s / 2) (set states (link n) (turned (closed n) (s % 2))) ∙ length-set states (link n) (turned (closed n) (s % 2))
+    length-set (withSet link closed n (s / 2) states) (link n) (turned (closed n) (s % 2)) ∙ length-states link closed n (s / 2) states
+
+-- the last switch is put as the set says, and any other link is as before
+module _ (link closed : ℕ → ℕ) (n s : ℕ) (states : List ℕ) where
+  states-here : (l : ℕ) → link n < length states → l ≡ link n → at (withSet link closed (suc n) s states) l ≡ turned (closed n) (s % 2)
+  unfolding withSet
+  states-here l k e = ap (at (withSet link closed (suc n) s states)) e
+      ∙ getD-set-same (withSet link closed n (s / 2) states) (link n) (turned (closed n) (s % 2)) 0 (omega (arith, length-states link closed n (s / 2) states))
+
+  states-there : (l : ℕ) → (l ≡ link n → ⊥) → at (withSet link closed (suc n) s states) l ≡ at (withSet link closed n (s / 2) states) l
+  unfolding withSet
+  states-there l e = getD-set-other (withSet link closed n (s / 2) states) (link n) l (turned (closed n) (s % 2)) 0 e
 
 -- a link that is none of the switches keeps its state
 pub states-other : (link closed : ℕ → ℕ) (n s : ℕ) (states : List ℕ) (l : ℕ) → ((j : ℕ) → j < n → l ≡ link j → ⊥)
@@ -70,8 +81,7 @@ pub states-other : (link closed : ℕ → ℕ) (n s : ℕ) (states : List ℕ) (
 unfolding withSet
 states-other link closed zero s states l h = refl
 states-other link closed (suc n) s states l h =
-    states-other link closed n (s / 2) (set states (link n) (turned (closed n) (s % 2))) l (λ j k. h j (omega arith))
-    ∙ getD-set-other states (link n) l (turned (closed n) (s % 2)) 0 (h n (omega arith))
+    states-there link closed n s states l (h n (omega arith)) ∙ states-other link closed n (s / 2) states l (λ j k. h j (omega arith))
 
 -- what a set leaves of a link depends on nothing but that link's state before
 pub states-same : (link closed : ℕ → ℕ) (n s l : ℕ) (xs ys : List ℕ) → ((j : ℕ) → j < n → link j < length xs) → ((j : ℕ) → j < n → link j < length ys)
@@ -79,17 +89,32 @@ pub states-same : (link closed : ℕ → ℕ) (n s l : ℕ) (xs ys : List ℕ) �
 unfolding withSet
 states-same link closed zero s l xs ys inside inside′ q = q
 states-same link closed (suc n) s l xs ys inside inside′ q =
-    states-same link closed n (s / 2) l (set xs (link n) v) (set ys (link n) v)
-    (λ j k. omega (arith, inside j (omega arith), length-set xs (link n) v)) (λ j k. omega (arith, inside′ j (omega arith), length-set ys (link n) v))
-    (go (eqb l (link n)) refl)
+    go (states-same link closed n (s / 2) l xs ys (λ j k. inside j (omega arith)) (λ j k. inside′ j (omega arith)) q) (eqb l (link n)) refl
   where
-    v : ℕ
-    v = turned (closed n) (s % 2)
+    go : at (withSet link closed n (s / 2) xs) l ≡ at (withSet link closed n (s / 2) ys) l → (t : Bool) → eqb l (link n) ≡ t
+        → at (withSet link closed (suc n) s xs) l ≡ at (withSet link closed (suc n) s ys) l
+    go ih true t = states-here link closed n s xs l (inside n (omega arith)) (eqb-true l (link n) t)
+        ∙ sym (states-here link closed n s ys l (inside′ n (omega arith)) (eqb-true l (link n) t))
+    go ih false t = states-there link closed n s xs l (eqb-false l (link n) t) ∙ ih ∙ sym (states-there link closed n s ys l (eqb-false l (link n) t))
 
-    go : (t : Bool) → eqb l (link n) ≡ t → at (set xs (link n) v) l ≡ at (set ys (link n) v) l
-    go true t = ap (at (set xs (link n) v)) (eqb-true l (link n) t) ∙ getD-set-same xs (link n) v 0 (inside n (omega arith))
-        ∙ sym (ap (at (set ys (link n) v)) (eqb-true l (link n) t) ∙ getD-set-same ys (link n) v 0 (inside′ n (omega arith)))
-    go false t = getD-set-other xs (link n) l v 0 (eqb-false l (link n) t) ∙ q ∙ sym (getD-set-other ys (link n) l v 0 (eqb-false l (link n) t))
+-- a set puts every switch, so what a switch was before does not matter
+pub states-over : (link closed : ℕ → ℕ) (n : ℕ) → ((i j : ℕ) → i < j → j < n → link i ≡ link j → ⊥) → (s : ℕ) (states : List ℕ) (j v : ℕ) → j < n
+    → withSet link closed n s (set states (link j) v) ≡ withSet link closed n s states
+unfolding withSet
+states-over link closed zero apart s states j v k = absurd (omega arith)
+states-over link closed (suc n) apart s states j v k =
+    go (states-over link closed n (λ i j h b. apart i j h (omega arith)) (s / 2) states j v) (eqb j n) refl
+  where
+    w : ℕ
+    w = turned (closed n) (s % 2)
+
+    go : (j < n → withSet link closed n (s / 2) (set states (link j) v) ≡ withSet link closed n (s / 2) states) → (t : Bool) → eqb j n ≡ t
+        → set (withSet link closed n (s / 2) (set states (link j) v)) (link n) w ≡ set (withSet link closed n (s / 2) states) (link n) w
+    go ih true t =
+        ap (λ (i : ℕ). set (withSet link closed n (s / 2) (set states (link i) v)) (link n) w) (eqb-true j n t)
+        ∙ ap (λ (xs : List ℕ). set xs (link n) w) (states-set link closed n (s / 2) states (link n) v (λ i b. apart i n b (omega arith)))
+        ∙ set-set (withSet link closed n (s / 2) states) (link n) v w
+    go ih false t = ap (λ (xs : List ℕ). set xs (link n) w) (ih (omega (arith, eqb-false j n t)))
 
 -- what any set leaves closed is closed where every switch is
 pub states-within : (link closed ones : ℕ → ℕ) (n : ℕ) → ((j : ℕ) → j < n → ones j ≡ 1) → (s l : ℕ) (xs ys : List ℕ)
@@ -98,53 +123,48 @@ pub states-within : (link closed ones : ℕ → ℕ) (n : ℕ) → ((j : ℕ) �
 unfolding withSet turned
 states-within link closed ones zero one s l xs ys inside sub h = sub h
 states-within link closed ones (suc n) one s l xs ys inside sub h =
-    states-within link closed ones n (λ j k. one j (omega arith)) (s / 2) l _ (set ys (link n) (turned (ones n) 0))
-    (λ j k. omega (arith, inside j (omega arith), length-set ys (link n) (turned (ones n) 0))) (go (eqb l (link n)) refl) h
+    go (states-within link closed ones n (λ j k. one j (omega arith)) (s / 2) l xs ys (λ j k. inside j (omega arith)) sub) (eqb l (link n)) refl
   where
-    go : (t : Bool) → eqb l (link n) ≡ t → at (set xs (link n) (turned (closed n) (s % 2))) l ≡ 1 → at (set ys (link n) (turned (ones n) 0)) l ≡ 1
-    go true t q = ap (at (set ys (link n) (turned (ones n) 0))) (eqb-true l (link n) t)
-        ∙ getD-set-same ys (link n) (turned (ones n) 0) 0 (inside n (omega arith)) ∙ ap (λ x. turned x 0) (one n (omega arith))
-    go false t q = getD-set-other ys (link n) l (turned (ones n) 0) 0 (eqb-false l (link n) t)
-        ∙ sub (sym (getD-set-other xs (link n) l (turned (closed n) (s % 2)) 0 (eqb-false l (link n) t)) ∙ q)
+    go : (at (withSet link closed n (s / 2) xs) l ≡ 1 → at (withSet link ones n 0 ys) l ≡ 1) → (t : Bool) → eqb l (link n) ≡ t
+        → at (withSet link ones (suc n) 0 ys) l ≡ 1
+    go ih true t = states-here link ones n 0 ys l (inside n (omega arith)) (eqb-true l (link n) t) ∙ ap (λ x. turned x 0) (one n (omega arith))
+    go ih false t = states-there link ones n 0 ys l (eqb-false l (link n) t) ∙ ih (sym (states-there link closed n s xs l (eqb-false l (link n) t)) ∙ h)
 
 -- a switch of the set is turned over, and any other is as at the start
 module _ (start : ℕ → Bool) (link closed : ℕ → ℕ) where
-  states-differ : (n : ℕ) → ((i j : ℕ) → i < j → j < n → link i < link j)
-      → ((j : ℕ) → j < n → (closed j ≤ 1) × (eqb (closed j) 1 ≡ start (link j)))
+  states-differ : (n : ℕ) → ((j : ℕ) → j < n → (closed j ≤ 1) × (eqb (closed j) 1 ≡ start (link j)))
       → (s l : ℕ) (states : List ℕ) → ((j : ℕ) → j < n → link j < length states)
       → (((j : ℕ) → j < n → l ≡ link j → ⊥) → isIn states l ≡ start l)
       → isIn (withSet link closed n s states) l ≡ differ (start l) (setOf link n s l)
   unfolding withSet setOf put
-  states-differ zero rising at-start s l states inside others = others (λ j k. absurd (omega arith)) ∙ sym (differ-false (start l))
-  states-differ (suc n) rising at-start s l states inside others =
-      go
-      (states-differ n (λ i j h k. rising i j h (omega arith)) (λ j k. at-start j (omega arith)) (s / 2) l (set states (link n) v)
-      (λ j k. omega (arith, inside j (omega arith), length-set states (link n) v)))
-      (eqb l (link n)) refl
+  states-differ zero at-start s l states inside others = others (λ j k. absurd (omega arith)) ∙ sym (differ-false (start l))
+  states-differ (suc n) at-start s l states inside others =
+      go (states-differ n (λ j k. at-start j (omega arith)) (s / 2) l states (λ j k. inside j (omega arith))) (eqb l (link n)) refl
     where
-      v : ℕ
-      v = turned (closed n) (s % 2)
-
-      go : ((((j : ℕ) → j < n → l ≡ link j → ⊥) → isIn (set states (link n) v) l ≡ start l)
-          → isIn (withSet link closed n (s / 2) (set states (link n) v)) l ≡ differ (start l) (setOf link n (s / 2) l))
+      go : ((((j : ℕ) → j < n → l ≡ link j → ⊥) → isIn states l ≡ start l)
+          → isIn (withSet link closed n (s / 2) states) l ≡ differ (start l) (setOf link n (s / 2) l))
           → (t : Bool) → eqb l (link n) ≡ t
-          → isIn (withSet link closed n (s / 2) (set states (link n) v)) l ≡ differ (start l) (cond t (eqb (s % 2) 1) (setOf link n (s / 2) l))
+          → isIn (withSet link closed (suc n) s states) l ≡ differ (start l) (cond t (eqb (s % 2) 1) (setOf link n (s / 2) l))
       go ih true t =
           let e : l ≡ link n = eqb-true l (link n) t in
-          let apart : (j : ℕ) → j < n → l ≡ link j → ⊥ = λ j k q. let r : link j < link n = rising j n k (omega arith) in omega arith in
-          let is : at (set states (link n) v) l ≡ v =
-          ap (at (set states (link n) v)) e ∙ getD-set-same states (link n) v 0 (inside n (omega arith)) in
-          ap (λ x. eqb x 1) (states-other link closed n (s / 2) (set states (link n) v) l apart ∙ is)
+          ap (λ x. eqb x 1) (states-here link closed n s states l (inside n (omega arith)) e)
           ∙ turned-differ (closed n) (s % 2) (at-start n (omega arith) .0) (omega arith)
           ∙ ap (λ b. differ b (eqb (s % 2) 1)) (at-start n (omega arith) .1 ∙ ap start (sym e))
       go ih false t =
-          ih (λ h. ap (λ x. eqb x 1) (getD-set-other states (link n) l v 0 (eqb-false l (link n) t)) ∙ others (λ j k. none h j k (eqb j n) refl))
+          ap (λ x. eqb x 1) (states-there link closed n s states l (eqb-false l (link n) t)) ∙ ih (λ h. others (λ j k. none h j k (eqb j n) refl))
         where
           none : ((j : ℕ) → j < n → l ≡ link j → ⊥) → (j : ℕ) → j < suc n → (u : Bool) → eqb j n ≡ u → l ≡ link j → ⊥
           none h j k true u q = eqb-false l (link n) t (q ∙ ap link (eqb-true j n u))
           none h j k false u q = h j (omega (arith, eqb-false j n u)) q
 
--- ---- sets and prices by the switches below the count
+-- ---- states, sets and prices by the switches below the count
+
+pub states-ext : (link link′ closed closed′ : ℕ → ℕ) (n s : ℕ) (states : List ℕ) → ((j : ℕ) → j < n → (link j ≡ link′ j) × (closed j ≡ closed′ j))
+    → withSet link closed n s states ≡ withSet link′ closed′ n s states
+unfolding withSet
+states-ext link link′ closed closed′ zero s states h = refl
+states-ext link link′ closed closed′ (suc n) s states h =
+    rw (h n (omega arith) .0, h n (omega arith) .1, states-ext link link′ closed closed′ n (s / 2) states (λ j k. h j (omega arith)))
 
 set-ext : (op op′ : ℕ → ℕ) (n s l : ℕ) → ((j : ℕ) → j < n → op j ≡ op′ j) → setOf op n s l ≡ setOf op′ n s l
 unfolding setOf put
@@ -152,7 +172,7 @@ set-ext op op′ zero s l h = refl
 set-ext op op′ (suc n) s l h =
     ap₂ (λ m b. cond (eqb l m) (eqb (s % 2) 1) b) (h n (omega arith)) (set-ext op op′ n (s / 2) l (λ j k. h j (omega arith)))
 
-price-ext : (price price′ : ℕ → ℕ) (n s : ℕ) → ((j : ℕ) → j < n → price j ≡ price′ j) → priceOf price n s ≡ priceOf price′ n s
+pub price-ext : (price price′ : ℕ → ℕ) (n s : ℕ) → ((j : ℕ) → j < n → price j ≡ price′ j) → priceOf price n s ≡ priceOf price′ n s
 unfolding priceOf
 price-ext price price′ zero s h = refl
 price-ext price price′ (suc n) s h =
@@ -207,18 +227,6 @@ module _ (n : Network) (well : WellFormed n) where
 
   -- ---- the arrays
 
-  pub from-long : length (sw .from) ≡ 16
-  unfolding switchList
-  from-long = length-column ops _
-
-  pub to-long : length (sw .to) ≡ 16
-  unfolding switchList
-  to-long = length-column ops _
-
-  pub closed-long : length (sw .closed) ≡ 16
-  unfolding switchList
-  closed-long = length-column ops _
-
   pub count-is : sw .count ≡ length ops
   unfolding switchList
   count-is = refl
@@ -268,13 +276,14 @@ module _ (n : Network) (well : WellFormed n) where
     price-at i k = column-in ops (at (n .cost)) few i k
 
     pub link-reach : SwitchReach (sw .link) (length ops)
-    link-reach = record { fit = few; link-in = λ i k. omega (arith, link-at i k, operable-in i k .0, well .links-fit) }
-
-    link-rising : (i j : ℕ) → i < j → j < length ops → at (sw .link) i < at (sw .link) j
-    link-rising i j h k = omega (arith, ops-rising i j h k, link-at i (omega arith), link-at j k)
+    link-reach = record {
+      fit = few;
+      link-in = λ i k. omega (arith, link-at i k, operable-in i k .0, well .links-fit);
+      apart = λ i j h k q. omega (arith, q, ops-rising i j h k, link-at i (omega arith), link-at j k);
+    }
 
     set-same : (s l : ℕ) → setOf (at (sw .link)) (length ops) s l ≡ switchesOf (netOf n) s l
-    unfolding switchesOf
+    unfolding setIn
     set-same s l = set-ext (at (sw .link)) (at ops) (length ops) s l link-at
 
     -- the states of the set: those at the start, with its switches turned over
@@ -284,7 +293,7 @@ module _ (n : Network) (well : WellFormed n) where
         → isIn (withSet (at (sw .link)) (at (sw .closed)) (length ops) s states) l ≡ flip (netOf n .startClosed) (switchesOf (netOf n) s) l
     unfolding flip
     states-flipped states long others s l k =
-        states-differ (netOf n .startClosed) (at (sw .link)) (at (sw .closed)) (length ops) link-rising
+        states-differ (netOf n .startClosed) (at (sw .link)) (at (sw .closed)) (length ops)
         (λ j h. (closed-bit j, closed-at j h ∙ ap (netOf n .startClosed) (sym (link-at j h))))
         s l states (λ j h. omega (arith, link-reach .link-in j h))
         (λ h. others l k (others-fixed l k (λ j b e. h j b (e ∙ sym (link-at j b)))))
@@ -294,7 +303,7 @@ module _ (n : Network) (well : WellFormed n) where
     pub set-operated : (s l : ℕ) → l < n .links
         → isIn (withSet (at (sw .link)) (at (replicate 16 0)) (length ops) s (replicate 96 0)) l ≡ switchesOf (netOf n) s l
     set-operated s l k =
-        states-differ (λ _. false) (at (sw .link)) (at (replicate 16 0)) (length ops) link-rising
+        states-differ (λ _. false) (at (sw .link)) (at (replicate 16 0)) (length ops)
         (λ j h. (omega (arith, zero-at 16 j), ap (λ x. eqb x 1) (zero-at 16 j)))
         s l (replicate 96 0) (λ j h. omega (arith, length-replicate {A = ℕ} 96 0, link-reach .link-in j h))
         (λ h. ap (λ x. eqb x 1) (zero-at 96 l))

@@ -1,4 +1,4 @@
--- What one turn of each loop does: a set's price and states by their last switch, and columns that grow by one link.
+-- What one turn of each loop does: a set's states by their last switch, and columns that grow by one link.
 -- Assumes nothing.
 use Prim.Native.Nat.{ℕ, zero, suc, _+_, _-_, _/_, _%_, _≤_, _<_}
 use mathlib.Core.Path.{_≡_, refl, sym, ap, ap₂, _∙_}
@@ -6,7 +6,7 @@ use mathlib.Core.Bool.{Bool, true, false}
 use mathlib.Core.List.{List, [], _∷_, _++_}
 use lib.Dec.{eqb, ltb}
 use lib.ListN.{length, set, replicate, length-set, length-append, length-replicate, getD-replicate, List·getD-append}
-use lib.Seq.{getD-set-same, getD-set-other, getD-at}
+use lib.Seq.{getD-set-same, getD-set-other, getD-at, set-comm}
 use borrow.Author.Tests.{eqb-true, eqb-false, eq-eqb, ne-eqb, ltb-true, lt-ltb, le-ltb}
 use native.Mathlib.Omega.{arith}
 use Rattle.feeding.specs.Below.{gate, those}
@@ -14,38 +14,9 @@ use Rattle.feeding.specs.Networks.{at, isIn}
 use Rattle.feeding.proofs.Below.{ltb-suc}
 use Rattle.feeding.proofs.Lows.{length-tabulate, at-tabulate, table-ext, those-some, those-none, length-those-step}
 use Rattle.network.specs.declared.Network.{Network}
-use Rattle.planning.specs.Sets.{priceOf}
 use Rattle.sets.specs.Sets.{members}
 use Rattle.switches.specs.declared.Switches.{Switches}
 use Rattle.switches.specs.Switches.{column, switchList, turned, withSet}
-
--- ---- what a set costs: the last switch, and those before it
-
-price-more : (price : ℕ → ℕ) (i s : ℕ) → priceOf price (suc i) s ≡ priceOf price i (s / 2) + gate (eqb (s % 2) 1) (price i)
-unfolding priceOf
-price-more price i s = refl
-
-pub price-end : (price : ℕ → ℕ) (s sum whole : ℕ) → priceOf price 0 s + sum ≡ whole → sum ≡ whole
-unfolding priceOf
-price-end price s sum whole h = omega arith
-
-pub price-in : (price : ℕ → ℕ) (i j rest sum sum′ whole : ℕ) → priceOf price i rest + sum ≡ whole → i ≡ j + 1 → rest % 2 ≡ 1 → sum′ ≡ sum + price j
-    → priceOf price j (rest / 2) + sum′ ≡ whole
-price-in price i j rest sum sum′ whole h e on q =
-    let d : i ≡ suc j = omega arith in
-    let m : priceOf price i rest ≡ priceOf price j (rest / 2) + price j =
-    ap (λ n. priceOf price n rest) d ∙ price-more price j rest
-    ∙ ap (λ b. priceOf price j (rest / 2) + gate b (price j)) (eq-eqb (rest % 2) 1 on) in
-    omega (arith, m)
-
-pub price-out : (price : ℕ → ℕ) (i j rest sum sum′ whole : ℕ) → priceOf price i rest + sum ≡ whole → i ≡ j + 1 → (rest % 2 ≡ 1 → ⊥) → sum′ ≡ sum
-    → priceOf price j (rest / 2) + sum′ ≡ whole
-price-out price i j rest sum sum′ whole h e off q =
-    let d : i ≡ suc j = omega arith in
-    let m : priceOf price i rest ≡ priceOf price j (rest / 2) + 0 =
-    ap (λ n. priceOf price n rest) d ∙ price-more price j rest
-    ∙ ap (λ b. priceOf price j (rest / 2) + gate b (price j)) (ne-eqb (rest % 2) 1 off) in
-    omega (arith, m)
 
 -- ---- the states that a set leaves: the last switch, and those before it
 
@@ -53,12 +24,24 @@ pub states-end : (link closed : ℕ → ℕ) (s : ℕ) (out whole : List ℕ) �
 unfolding withSet
 states-end link closed s out whole h = h
 
-pub states-step : (link closed : ℕ → ℕ) (i j rest v : ℕ) (out out′ whole : List ℕ) → withSet link closed i rest out ≡ whole → i ≡ j + 1
-    → v ≡ turned (closed j) (rest % 2) → out′ ≡ set out (link j) v → withSet link closed j (rest / 2) out′ ≡ whole
+-- a link that is none of the switches can be put before or after them
+pub states-set : (link closed : ℕ → ℕ) (n s : ℕ) (states : List ℕ) (l v : ℕ) → ((j : ℕ) → j < n → link j ≡ l → ⊥)
+    → withSet link closed n s (set states l v) ≡ set (withSet link closed n s states) l v
 unfolding withSet
-states-step link closed i j rest v out out′ whole h e p q =
+states-set link closed zero s states l v h = refl
+states-set link closed (suc n) s states l v h =
+    ap (λ (xs : List ℕ). set xs (link n) (turned (closed n) (s % 2))) (states-set link closed n (s / 2) states l v (λ j k. h j (omega arith)))
+    ∙ set-comm (withSet link closed n (s / 2) states) l (link n) v (turned (closed n) (s % 2)) (λ e. h n (omega arith) (sym e))
+
+pub states-step : (link closed : ℕ → ℕ) (i j rest v : ℕ) (out out′ whole : List ℕ) → ((k : ℕ) → k < j → link k ≡ link j → ⊥)
+    → withSet link closed i rest out ≡ whole → i ≡ j + 1 → v ≡ turned (closed j) (rest % 2) → out′ ≡ set out (link j) v
+    → withSet link closed j (rest / 2) out′ ≡ whole
+unfolding withSet
+states-step link closed i j rest v out out′ whole apart h e p q =
     let d : suc j ≡ i = omega arith in
-    ap (withSet link closed j (rest / 2)) (q ∙ ap (set out (link j)) p) ∙ ap (λ n. withSet link closed n rest out) d ∙ h
+    ap (withSet link closed j (rest / 2)) (q ∙ ap (set out (link j)) p)
+    ∙ states-set link closed j (rest / 2) out (link j) (turned (closed j) (rest % 2)) apart
+    ∙ ap (λ n. withSet link closed n rest out) d ∙ h
 
 pub turned-open : (closed b : ℕ) → closed ≡ b → 0 ≡ turned closed b
 unfolding turned

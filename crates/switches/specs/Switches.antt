@@ -1,5 +1,6 @@
 -- A list of switches as arrays, and the states that a set of them, written as a number, leaves.
 -- Assumes nothing.
+use mathlib.Core.Path.{_≡_}
 use mathlib.Core.Bool.{true, false}
 use mathlib.Core.List.{List}
 use Prim.Native.Nat.{ℕ, zero, suc, _/_, _%_, _<_, _≤_}
@@ -25,16 +26,17 @@ switchList n ops =
       count = length ops;
     }
 
--- at most 16 switches, whose numbers are below 96
+-- at most 16 switches, whose numbers are below 96 and differ
 pub record SwitchReach (link : List ℕ) (count : ℕ) : Type 0 where
   pub fit : count ≤ 16
   pub link-in : (i : ℕ) → i < count → at link i < 96
+  pub apart : (i j : ℕ) → i < j → j < count → at link i ≡ at link j → ⊥
 
 -- a switch's state, 1 for closed: b is 1 where it is turned over
 unfoldable pub turned : (closed b : ℕ) → ℕ
 turned closed b = elim (eqb closed b) [ true ↦ 0 | false ↦ 1 ]
 
--- the states after the first n switches are put as the set s says, the last one first
+-- the states after the first n switches are put as the set s says; the first switch has the highest bit
 unfoldable pub withSet : (link closed : ℕ → ℕ) → (n s : ℕ) → List ℕ → List ℕ
 withSet link closed zero s states = states
-withSet link closed (suc n) s states = withSet link closed n (s / 2) (set states (link n) (turned (closed n) (s % 2)))
+withSet link closed (suc n) s states = set (withSet link closed n (s / 2) states) (link n) (turned (closed n) (s % 2))

@@ -1,4 +1,4 @@
-// The operable switches of a network by their place among them, and what a set of them makes of states and costs.
+// The operable switches of a network by their place among them, and the states that a set of them leaves.
 use network::Network;
 ghost use mathlib.Core.Path.{_≡_};
 ghost use Prim.Native.Nat.{_≤_};
@@ -6,7 +6,6 @@ ghost use lib.ListN.{length};
 ghost use Rattle.network.specs.Accepted.{WellFormed};
 ghost use Rattle.feeding.specs.Networks.{at};
 ghost use Rattle.sets.specs.Sets.{members};
-ghost use Rattle.planning.specs.Sets.{priceOf};
 ghost use Rattle.switches.specs.Switches.{SwitchReach, switchList, withSet};
 
 // Switch i of the list: its link number, its two ends, 1 in `closed` where it is closed at the start, its cost. Entries from `count` on are 0.
@@ -53,26 +52,8 @@ pub fn switches_of(net: Network, operable: &[u8]) -> Switches
     }
 }
 
-// What the switches of a set cost, each operated once; the set is a number in which the first switch has the highest bit.
-pub fn price_of(price: &[u16; 16], count: usize, set: u32) -> u64
-    requires { ⌜ count ≤ 16 ⌝ }
-    ensures { λ r. ⌜ r ≡ priceOf (at (now (price .entry))) count set ⌝ }
-{
-    let prices: &[u16] = price;
-    let mut sum: u64 = 0;
-    let mut rest = set;
-    let mut i = count;
-    while 0 < i {
-        i = i - 1;
-        if rest % 2 == 1 {
-            sum = sum + prices[i] as u64;
-        }
-        rest = rest / 2;
-    }
-    sum
-}
-
-// The states with each of the switches as it is at the start, but those of the set turned over.
+// The states with each of the switches as it is at the start, but those of the set turned over; the set is a number in which the first switch has the
+// highest bit.
 pub fn with_set<'a>(
     states: [u8; 96],
     link: &'a [u8; 16],

@@ -1,7 +1,7 @@
 -- `held` meets its contract: the three numbers that the tests let through fit a byte, and their sum is `holding`.
 -- Assumes nothing.
 use native.Mathlib.Omega.{arith}
-use Rattle.planning.specs.Candidates.{holding}
+use Rattle.carrying.specs.Holding.{holding}
 use borrow.Author.Needs.{needs}
 use Rattle.holdings.proofs.held.Statement.{statement}
 use Rattle.holdings.proofs.held.Tie as tie

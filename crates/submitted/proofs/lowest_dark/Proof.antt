@@ -3,7 +3,6 @@
 use mathlib.Core.Path.{_∙_}
 use borrow.Author.Needs.{needs}
 use Rattle.submitted.proofs.Turns.{dark-found}
-use borrow.Author.Needs.{needs}
 use Rattle.submitted.proofs.lowest_dark.Statement.{statement}
 use Rattle.submitted.proofs.lowest_dark.Tie as tie
 

@@ -2,7 +2,7 @@
 -- Assumes nothing.
 use mathlib.Core.Path.{_≡_, refl}
 use mathlib.Core.Logic.{⊎-elim}
-use Prim.Native.Nat.{_≤_, _-_, _%_}
+use Prim.Native.Nat.{ℕ, _≤_, _<_, _-_, _%_}
 use native.Mathlib.Omega.{arith}
 use Rattle.feeding.specs.Networks.{at}
 use Rattle.switches.specs.Switches.{withSet}
@@ -57,12 +57,13 @@ loop-again c =
     let link = args· .link .now in
     let closed = args· .closed .now in
     let i = loop· .i in
-    let bit = loop· .rest % 2 in (
+    let bit = loop· .rest % 2 in
+    let apart : (k : ℕ) → k < i - 1 → at link k ≡ at link (i - 1) → ⊥ = λ k b. c .before .before .before .before .before .pre .apart k (i - 1) b (omega arith) in (
       omega arith,
       ⊎-elim
-          (λ w. states-step (at link) (at closed) i (i - 1) (loop· .rest) 0 (loop· .out) _ _ (loop· .inv .1) (omega arith)
+          (λ w. states-step (at link) (at closed) i (i - 1) (loop· .rest) 0 (loop· .out) _ _ apart (loop· .inv .1) (omega arith)
           (turned-open (at closed (i - 1)) bit (omega arith)) (w .1))
-          (λ w. states-step (at link) (at closed) i (i - 1) (loop· .rest) 1 (loop· .out) _ _ (loop· .inv .1) (omega arith)
+          (λ w. states-step (at link) (at closed) i (i - 1) (loop· .rest) 1 (loop· .out) _ _ apart (loop· .inv .1) (omega arith)
           (turned-closed (at closed (i - 1)) bit (omega arith)) (w .1))
           (c .if1 .came),
     )

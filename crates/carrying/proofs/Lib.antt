@@ -1,0 +1,13 @@
+pub mod OneMore
+pub mod Radial
+pub mod Holdings
+pub mod Carried
+pub mod Merging
+pub mod Joining
+pub mod Supplied
+pub mod Weighed
+pub mod Works
+pub mod Demand
+pub mod Settled
+pub mod Searched
+pub mod Dearer

@@ -1,0 +1,4 @@
+pub mod Candidates
+pub mod Holding
+pub mod Supply
+pub mod Searching

@@ -1,0 +1,4 @@
+pub mod Closing
+pub mod Signs
+pub mod Within
+pub mod Tests
