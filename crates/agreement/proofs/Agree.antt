@@ -7,42 +7,42 @@ use Prim.Native.Nat.{ℕ, zero, suc, _+_, _≤_, _<_}
 use native.Mathlib.Omega.{arith}
 use lib.ListN.{length, getD}
 use Rattle.network.specs.declared.Network.{Network}
-use Rattle.stages.specs.declared.Stage.{Stage}
-use Rattle.stages.specs.declared.Stage.the-variants.{Over}
+use Rattle.file_stages.specs.declared.Stage.{Stage}
+use Rattle.file_stages.specs.declared.Stage.the-variants.{Over}
 use Rattle.network.specs.declared.refusal.Answer.the-variants.{Accepted, Refused}
-use Rattle.network_file.specs.declared.NetworkRead.{NetworkRead}
+use Rattle.file_network.specs.declared.NetworkRead.{NetworkRead}
 use Rattle.network.specs.Accepted.{WellFormed}
-use Rattle.network_file.specs.Inputs.{networkInput, networkRead}
-use Rattle.network_file.specs.NetworkFiles.{networkFile}
-use Rattle.network_file.specs.Runs as Runs
-use Rattle.network_file.specs.Runs.{reached}
-use Rattle.network_file.proofs.Sizes.{network-input-size}
-use Rattle.network_file.proofs.NetworkAlike.{network-followed}
-use Rattle.plan_file.specs.declared.plan.Plan.{Plan}
-use Rattle.plan_file.specs.Accepted.{WellFormedPlan}
-use Rattle.plan_file.proofs.Accepted.{plan-well-formed as read-well-formed}
-use Rattle.judge_input.specs.Inputs.{planBehind, bothInput, bothRead}
-use Rattle.judge_input.proofs.Sizes.{both-size}
-use Rattle.plan_writer.specs.Writing.{planBytes, planLength}
-use Rattle.plan_writer.proofs.RoundTrip.{SameSteps, firstSteps, first-same, round-trip-input}
+use Rattle.file_network.specs.Inputs.{networkInput, networkRead}
+use Rattle.file_network.specs.NetworkFiles.{networkFile}
+use Rattle.file_network.specs.Runs as Runs
+use Rattle.file_network.specs.Runs.{reached}
+use Rattle.file_network.proofs.Sizes.{network-input-size}
+use Rattle.file_network.proofs.NetworkAlike.{network-followed}
+use Rattle.file_plan.specs.declared.plan.Plan.{Plan}
+use Rattle.file_plan.specs.Accepted.{WellFormedPlan}
+use Rattle.file_plan.proofs.Accepted.{plan-well-formed as read-well-formed}
+use Rattle.file_both.specs.Inputs.{planBehind, bothInput, bothRead}
+use Rattle.file_both.proofs.Sizes.{both-size}
+use Rattle.file_writer.specs.Writing.{planBytes, planLength}
+use Rattle.file_writer.proofs.RoundTrip.{SameSteps, firstSteps, first-same, round-trip-input}
 use Rattle.feeding.specs.Acceptance.{Answered}
 use Rattle.feeding.specs.Networks.{netOf, gridOf}
 use Rattle.feeding.specs.Plans.{Step, printedForm}
 use Rattle.feeding.proofs.Views.{formed-net}
-use Rattle.acceptance.specs.Reading.{Admission, Accepts}
-use Rattle.acceptance.specs.Reading as Reading
-use Rattle.acceptance.proofs.Promises.{admission-only, input-starts}
-use Rattle.planning.specs.Choosing.{Choice, nothing, chosen, planned}
-use Rattle.printed.specs.Printing.{stepsTo, stepsOf}
-use Rattle.printed.proofs.Steps.{plan-well-formed, printed-length, printed-below}
-use Rattle.outcomes.specs.declared.Planned.{Planned}
-use Rattle.outcomes.specs.declared.Reply.the-variants as Reply·
-use Rattle.outcomes.specs.declared.Outcome.{Outcome}
-use Rattle.outcomes.specs.Outcomes.{plannedBy, unplanned, outcomeFrom, outcomeOf, outcomeAnswered, outcomeRead, outcome}
-use Rattle.outcomes.proofs.Promises.{outcome-kept}
-use Rattle.marking.specs.declared.Mark.the-variants as Mark·
-use Rattle.marking.specs.Marks.{markOf}
-use Rattle.marking.proofs.Marking.{promised-marked}
+use Rattle.feeding_acceptance.specs.Reading.{Admission, Accepts}
+use Rattle.feeding_acceptance.specs.Reading as Reading
+use Rattle.feeding_acceptance.proofs.Promises.{admission-only, input-starts}
+use Rattle.plan_problem.specs.Choosing.{Choice, nothing, chosen, planned}
+use Rattle.plan_form.specs.Printing.{stepsTo, stepsOf}
+use Rattle.plan_form.proofs.Steps.{plan-well-formed, printed-length, printed-below}
+use Rattle.plan_outcome.specs.declared.Planned.{Planned}
+use Rattle.plan_outcome.specs.declared.Reply.the-variants as Reply·
+use Rattle.plan_outcome.specs.declared.Outcome.{Outcome}
+use Rattle.plan_outcome.specs.Outcomes.{plannedBy, unplanned, outcomeFrom, outcomeOf, outcomeAnswered, outcomeRead, outcome}
+use Rattle.plan_outcome.proofs.Promises.{outcome-kept}
+use Rattle.judge_marks.specs.declared.Mark.the-variants as Mark·
+use Rattle.judge_marks.specs.Marks.{markOf}
+use Rattle.judge_marks.proofs.Marking.{promised-marked}
 use Rattle.judge.specs.Judging.{Submits, markFor}
 use Rattle.judge.proofs.Kept.{submitted-mark}
 
@@ -81,7 +81,7 @@ read-stated : (s : List ℕ) (n : Network) → networkRead (networkInput s) ≡ 
 unfolding networkRead outcome outcomeRead outcomeAnswered
 read-stated s n r w h = go (networkInput s) refl r
   where
-    go : (o : Runs.Outcome Network) → networkInput s ≡ o → networkRead o ≡ record { answer = Accepted; net = n } → Stated s n
+    go : (o : Runs.Reading Network) → networkInput s ≡ o → networkRead o ≡ record { answer = Accepted; net = n } → Stated s n
     go (Runs.refused f) e k =
         let same : Refused f ≡ Accepted = ap (λ (x : NetworkRead). x .answer) k in
         let z : _≡_ {A = ℕ} 0 1 = cc in

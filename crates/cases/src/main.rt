@@ -1,19 +1,19 @@
 // Runs planner and judge on the cases of standard input and prints what each gets; the expected output was derived by hand from document 01.
 //
-// A line of the input is a case: its number, the program, and a text as `case_files` reads it, where a W in front stands for the widest network.
+// A line of the input is a case: its number, the program, and a text as `test_files` reads it, where a W in front stands for the widest network.
 // The programs are `planner`, `judge`, `both` (the planner on the text up to a slash, then the judge on all of it), `again` (the judge, with
 // what stands between two slashes 122 times), `cheapest` (the cheapest cost alone) and two digits, as `18-bytes` (the planner with a plan
 // buffer of so many bytes). Lines that start with a number sign, and lines of fewer than four bytes, are no cases.
-use case_files::put;
-use case_files::put_times;
-use case_files::put_widest;
-use cheapest_cost::Cheapest;
+use test_files::put;
+use test_files::put_times;
+use test_files::put_widest;
+use plan_least_cost::Cheapest;
 use libc::STDIN_FILENO;
 use libc::STDOUT_FILENO;
 use network::refusal;
 use network::refusal::Refusal;
-use outcomes::Reply;
-use sums::Sums;
+use plan_outcome::Reply;
+use plan_sums::Sums;
 
 // What runs on a case's bytes. Into is the planner with a plan buffer of so many bytes.
 enum Run {
@@ -121,7 +121,7 @@ fn run_on(how: Run, bytes: &[u8]) {
     match how {
         Run::Planner => lines(bytes),
         Run::Judge => mark_line(bytes),
-        Run::Cheapest => show_cheapest(cheapest_cost::cheapest_in(bytes)),
+        Run::Cheapest => show_cheapest(plan_least_cost::cheapest_in(bytes)),
         Run::Into(size) => into(bytes, size),
     }
 }

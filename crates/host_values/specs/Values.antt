@@ -3,11 +3,11 @@
 use mathlib.Core.List.{List, [], _∷_}
 use Prim.Native.Nat.{ℕ}
 use Rattle.network.specs.Refusals.{ruleNumber}
-use Rattle.outcomes.specs.declared.Reply.{Reply}
-use Rattle.outcomes.specs.declared.Reply.the-variants as Reply·
-use Rattle.marking.specs.declared.Mark.{Mark}
-use Rattle.marking.specs.declared.Mark.the-variants.{Broken, Short, Valid, Refused}
-use Rattle.marking.specs.Marks.{reasonNumber}
+use Rattle.plan_outcome.specs.declared.Reply.{Reply}
+use Rattle.plan_outcome.specs.declared.Reply.the-variants as Reply·
+use Rattle.judge_marks.specs.declared.Mark.{Mark}
+use Rattle.judge_marks.specs.declared.Mark.the-variants.{Broken, Short, Valid, Refused}
+use Rattle.judge_marks.specs.Marks.{reasonNumber}
 
 -- refused, plan, none
 unfoldable pub replyKind : Reply → ℕ

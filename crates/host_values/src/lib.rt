@@ -1,8 +1,8 @@
 // The planner's reply and the judge's mark as numbers, for programs in other languages.
-use mark_lines::reason_number;
-use marking::Mark;
+use judge_line::reason_number;
+use judge_marks::Mark;
 use network::refusal::number;
-use outcomes::Reply;
+use plan_outcome::Reply;
 ghost use mathlib.Core.Path.{_≡_};
 ghost use Rattle.host_values.specs.Values.{replyKind, replyValues, markKind, markValues};
 

@@ -10,25 +10,25 @@ use Rattle.network.specs.declared.refusal.Refusal.{Refusal}
 use Rattle.network.specs.declared.refusal.Answer.{Answer}
 use Rattle.network.specs.declared.refusal.Answer.the-variants.{Accepted, Refused}
 use Rattle.network.specs.Accepted.{WellFormed}
-use Rattle.network_file.specs.Runs.{Outcome}
-use Rattle.network_file.specs.Inputs.{decides}
-use Rattle.plan_file.specs.declared.plan.Plan.{Plan}
-use Rattle.judge_input.specs.declared.BothRead.{BothRead}
-use Rattle.judge_input.specs.Inputs.{bothInput, bothRead}
-use Rattle.judge_input.proofs.Alike.{both-decided}
+use Rattle.file_network.specs.Runs.{Reading}
+use Rattle.file_network.specs.Inputs.{decides}
+use Rattle.file_plan.specs.declared.plan.Plan.{Plan}
+use Rattle.file_both.specs.declared.BothRead.{BothRead}
+use Rattle.file_both.specs.Inputs.{bothInput, bothRead}
+use Rattle.file_both.proofs.Alike.{both-decided}
 use Rattle.feeding.specs.Networks.{netOf}
 use Rattle.feeding.specs.Acceptance.{Answered, Starts, answerTo}
 use Rattle.feeding.specs.Plans.{ValidPlan}
 use Rattle.feeding.proofs.Views.{formed-net, network-answered, answered-network, accepted-starts}
-use Rattle.planning.specs.Choosing.{NoneCheaper}
-use Rattle.printed.specs.Printing.{stepsOf}
-use Rattle.marking.specs.declared.Score.{Score}
-use Rattle.marking.specs.declared.Mark.{Mark}
-use Rattle.marking.specs.declared.Mark.the-variants as Mark·
-use Rattle.marking.specs.Marks.{Marked, markOf}
-use Rattle.marking.proofs.Marking.{mark-marked, marked-mark}
-use Rattle.marking.proofs.Marking as Marking
-use Rattle.marking.specs.Marks as Marks·
+use Rattle.plan_problem.specs.Choosing.{NoneCheaper}
+use Rattle.plan_form.specs.Printing.{stepsOf}
+use Rattle.judge_marks.specs.declared.Score.{Score}
+use Rattle.judge_marks.specs.declared.Mark.{Mark}
+use Rattle.judge_marks.specs.declared.Mark.the-variants as Mark·
+use Rattle.judge_marks.specs.Marks.{Marked, markOf}
+use Rattle.judge_marks.proofs.Marking.{mark-marked, marked-mark}
+use Rattle.judge_marks.proofs.Marking as Marking
+use Rattle.judge_marks.specs.Marks as Marks·
 use Rattle.judge.specs.Judging.{Submits, RefusesBoth, unread, unaccepted, MarkKept, accepted, refused, markAccepted, markRead, markOfRead, markFor}
 use Rattle.judge.proofs.Read.{both-formed}
 
@@ -119,4 +119,4 @@ refused-exactly s bytes f = (λ r. sym (kept-mark s _ (refused r)), λ e. go (ma
 -- "the first 4,096 bytes decide"
 pub mark-decided : (s : List ℕ) → markFor (take decides s) ≡ markFor s
 unfolding markFor
-mark-decided s = ap (λ (o : Outcome (Network × Plan)). markOfRead (bothRead o)) (both-decided decides (omega arith) s)
+mark-decided s = ap (λ (o : Reading (Network × Plan)). markOfRead (bothRead o)) (both-decided decides (omega arith) s)

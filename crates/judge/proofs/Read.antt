@@ -8,14 +8,14 @@ use lib.ListN.{getD}
 use Rattle.network.specs.declared.Network.{Network}
 use Rattle.network.specs.declared.refusal.Answer.the-variants.{Accepted}
 use Rattle.network.specs.Accepted.{WellFormed}
-use Rattle.network_file.specs.Runs.{Outcome, refused, reached}
-use Rattle.network_file.proofs.Accepted.{network-well-formed}
-use Rattle.plan_file.specs.declared.plan.Plan.{Plan}
-use Rattle.judge_input.specs.declared.BothRead.{BothRead}
-use Rattle.plan_file.specs.Accepted.{WellFormedPlan}
-use Rattle.judge_input.specs.Inputs.{bothInput, bothRead}
-use Rattle.plan_file.proofs.Accepted.{plan-well-formed}
-use Rattle.judge_input.proofs.Sizes.{both-size}
+use Rattle.file_network.specs.Runs.{Reading, refused, reached}
+use Rattle.file_network.proofs.Accepted.{network-well-formed}
+use Rattle.file_plan.specs.declared.plan.Plan.{Plan}
+use Rattle.file_both.specs.declared.BothRead.{BothRead}
+use Rattle.file_plan.specs.Accepted.{WellFormedPlan}
+use Rattle.file_both.specs.Inputs.{bothInput, bothRead}
+use Rattle.file_plan.proofs.Accepted.{plan-well-formed}
+use Rattle.file_both.proofs.Sizes.{both-size}
 
 -- the network is well formed, and so is the plan in it
 pub record BothFormed (r : BothRead) : Type 0 where
@@ -26,7 +26,7 @@ pub both-formed : (s : List ℕ) → ((i : ℕ) → getD s i 0 < 256) → (r : B
 unfolding bothRead
 both-formed s bytes r e a = subst BothFormed (sym e) (go (bothInput s) refl (sym (ap (λ (x : BothRead). x .answer) e) ∙ a))
   where
-    go : (o : Outcome (Network × Plan)) → bothInput s ≡ o → bothRead o .answer ≡ Accepted → BothFormed (bothRead o)
+    go : (o : Reading (Network × Plan)) → bothInput s ≡ o → bothRead o .answer ≡ Accepted → BothFormed (bothRead o)
     go (refused f) h k = let z : _≡_ {A = ℕ} 0 1 = cc in absurd (omega arith)
     go (reached at stage v) h k =
         let size = both-size s at stage (v .0) (v .1) h in

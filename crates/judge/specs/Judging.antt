@@ -8,16 +8,16 @@ use Rattle.network.specs.declared.refusal.Refusal.{Refusal}
 use Rattle.network.specs.declared.refusal.Answer.{Answer}
 use Rattle.network.specs.declared.refusal.Answer.the-variants.{Accepted, Refused}
 use Rattle.network.specs.Accepted.{WellFormed}
-use Rattle.plan_file.specs.declared.plan.Plan.{Plan}
-use Rattle.judge_input.specs.declared.BothRead.{BothRead}
-use Rattle.plan_file.specs.Accepted.{WellFormedPlan}
-use Rattle.judge_input.specs.Inputs.{bothInput, bothRead}
+use Rattle.file_plan.specs.declared.plan.Plan.{Plan}
+use Rattle.file_both.specs.declared.BothRead.{BothRead}
+use Rattle.file_plan.specs.Accepted.{WellFormedPlan}
+use Rattle.file_both.specs.Inputs.{bothInput, bothRead}
 use Rattle.feeding.specs.Networks.{netOf}
 use Rattle.feeding.specs.Acceptance.{Answered, answerTo}
-use Rattle.printed.specs.Printing.{stepsOf}
-use Rattle.marking.specs.declared.Mark.{Mark}
-use Rattle.marking.specs.declared.Mark.the-variants as Mark·
-use Rattle.marking.specs.Marks.{Marked, markOf}
+use Rattle.plan_form.specs.Printing.{stepsOf}
+use Rattle.judge_marks.specs.declared.Mark.{Mark}
+use Rattle.judge_marks.specs.declared.Mark.the-variants as Mark·
+use Rattle.judge_marks.specs.Marks.{Marked, markOf}
 
 -- the bytes s are a network file and a plan file that keep rules 1 to 18, and n and p are what they state
 pub record Submits (s : List ℕ) (n : Network) (p : Plan) : Type 0 where

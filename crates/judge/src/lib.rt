@@ -1,14 +1,14 @@
 // The judge: from the bytes of a network file with a plan file directly behind it to the mark, and to its printed line.
-use acceptance::accept;
-use judge_input::read_network_and_plan;
-use mark_lines::mark_line;
-use marking::Mark;
+use feeding_acceptance::accept;
+use file_both::read_network_and_plan;
+use judge_line::mark_line;
+use judge_marks::Mark;
 use network::refusal::Answer;
-use plan_marks::marked;
+use judge_score::marked;
 ghost use mathlib.Core.Path.{_≡_};
 ghost use lib.ListN.{length};
 ghost use Rattle.texts.specs.Texts.{inFront, Counted};
-ghost use Rattle.mark_lines.specs.MarkLines.{markLine};
+ghost use Rattle.judge_line.specs.MarkLines.{markLine};
 ghost use Rattle.judge.specs.Judging.{markFor, MarkKept};
 
 // The mark of a network file with a plan file directly behind it: rules 1 to 13 over both files, then 14 to 18, then the plan.

@@ -12,20 +12,20 @@ use borrow.Author.Tests.{ltb-true, ltb-false}
 use Rattle.network.specs.declared.refusal.Refusal.{Refusal}
 use Rattle.network.specs.declared.refusal.Rule.the-variants.{BufferTooShort}
 use Rattle.network.specs.Refusals.{pick}
-use Rattle.plan_file.specs.declared.plan.Plan.{Plan}
-use Rattle.plan_writer.specs.declared.Written.the-variants as Written·
-use Rattle.plan_writer.specs.Writing.{planBytes, planLength, written, bufferAfter}
-use Rattle.printed.specs.Printing.{stepsTo, stepsOf}
-use Rattle.sums.specs.declared.Sums.{Sums}
+use Rattle.file_plan.specs.declared.plan.Plan.{Plan}
+use Rattle.file_writer.specs.declared.Written.the-variants as Written·
+use Rattle.file_writer.specs.Writing.{planBytes, planLength, written, bufferAfter}
+use Rattle.plan_form.specs.Printing.{stepsTo, stepsOf}
+use Rattle.plan_sums.specs.declared.Sums.{Sums}
 use Rattle.texts.specs.Texts.{inFront, Counted}
 use Rattle.texts.proofs.Pieces.{front-counted}
-use Rattle.outcomes.specs.declared.Planned.{Planned}
-use Rattle.outcomes.specs.declared.Reply.{Reply}
-use Rattle.outcomes.specs.declared.Reply.the-variants as Reply·
-use Rattle.outcomes.specs.declared.Outcome.{Outcome}
-use Rattle.outcomes.specs.Outcomes.{outcome}
-use Rattle.outcomes.specs.Promises.{PlanKept, NoneKept, OutcomeKept}
-use Rattle.outcomes.proofs.Promises.{same-plan, same-sums, same-refusal, outcome-kept}
+use Rattle.plan_outcome.specs.declared.Planned.{Planned}
+use Rattle.plan_outcome.specs.declared.Reply.{Reply}
+use Rattle.plan_outcome.specs.declared.Reply.the-variants as Reply·
+use Rattle.plan_outcome.specs.declared.Outcome.{Outcome}
+use Rattle.plan_outcome.specs.Outcomes.{outcome}
+use Rattle.plan_outcome.specs.Promises.{PlanKept, NoneKept, OutcomeKept}
+use Rattle.plan_outcome.proofs.Promises.{same-plan, same-sums, same-refusal, outcome-kept}
 use Rattle.planner.specs.Replies.{replyWritten, replyWith, replyFor, bufferWith, bufferFor, linesOf}
 use Rattle.planner.specs.Promises.{PlanWritten, RefusalWritten, ReplyKept}
 

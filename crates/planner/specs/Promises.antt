@@ -7,14 +7,14 @@ use Prim.Native.Nat.{ℕ, _+_, _*_, _≤_, _<_}
 use lib.ListN.{length, drop}
 use Rattle.network.specs.declared.refusal.Refusal.{Refusal}
 use Rattle.network.specs.declared.refusal.Rule.the-variants.{BufferTooShort}
-use Rattle.acceptance.specs.Reading.{Refuses}
-use Rattle.plan_file.specs.declared.plan.Plan.{Plan}
-use Rattle.plan_writer.specs.Writing.{planBytes}
-use Rattle.sums.specs.declared.Sums.{Sums}
-use Rattle.outcomes.specs.declared.Planned.{Planned}
-use Rattle.outcomes.specs.declared.Reply.{Reply}
-use Rattle.outcomes.specs.declared.Reply.the-variants as Reply·
-use Rattle.outcomes.specs.Promises.{PlanKept, NoneKept}
+use Rattle.feeding_acceptance.specs.Reading.{Refuses}
+use Rattle.file_plan.specs.declared.plan.Plan.{Plan}
+use Rattle.file_writer.specs.Writing.{planBytes}
+use Rattle.plan_sums.specs.declared.Sums.{Sums}
+use Rattle.plan_outcome.specs.declared.Planned.{Planned}
+use Rattle.plan_outcome.specs.declared.Reply.{Reply}
+use Rattle.plan_outcome.specs.declared.Reply.the-variants as Reply·
+use Rattle.plan_outcome.specs.Promises.{PlanKept, NoneKept}
 
 -- the plan's file fills the buffer's front, and later bytes keep their values
 pub record PlanWritten (s before : List ℕ) (p : Planned) (after : List ℕ) : Type 0 where

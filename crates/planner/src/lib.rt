@@ -1,19 +1,19 @@
 // The planner: from the bytes of a network file to the reply, to its plan file, and to its printed lines.
-use answering::answer;
-use lines::none_lines;
-use lines::plan_lines;
-use outcomes::Planned;
-use outcomes::Reply;
-use plan_file::plan::Plan;
-use plan_writer::Written;
-use plan_writer::write_plan;
+use plan_answer::answer;
+use plan_lines::none_lines;
+use plan_lines::plan_lines;
+use plan_outcome::Planned;
+use plan_outcome::Reply;
+use file_plan::plan::Plan;
+use file_writer::Written;
+use file_writer::write_plan;
 use texts::refused_line;
 ghost use mathlib.Core.Path.{_≡_};
 ghost use lib.ListN.{length};
 ghost use Rattle.texts.specs.Texts.{inFront, Counted};
-ghost use Rattle.outcomes.specs.Outcomes.{outcome};
-ghost use Rattle.outcomes.specs.Promises.{OutcomeKept};
-ghost use Rattle.plan_writer.specs.Writing.{written, bufferAfter};
+ghost use Rattle.plan_outcome.specs.Outcomes.{outcome};
+ghost use Rattle.plan_outcome.specs.Promises.{OutcomeKept};
+ghost use Rattle.file_writer.specs.Writing.{written, bufferAfter};
 ghost use Rattle.planner.specs.Replies.{replyWritten, replyFor, bufferFor, linesOf};
 ghost use Rattle.planner.specs.Promises.{ReplyKept};
 

@@ -7,8 +7,8 @@ use network::Network;
 use network::refusal;
 use network::refusal::Answer;
 use network::refusal::Refusal;
-use plan_file::plan::Plan;
-use plan_writer::Written;
+use file_plan::plan::Plan;
+use file_writer::Written;
 
 const FILE: [u8; 141] = [
     8,
@@ -273,14 +273,14 @@ fn changed(file: [u8; 141], at: u8, byte: u8) -> [u8; 141] {
 }
 
 fn try_network(bytes: &[u8]) {
-    let read = network_file::read_network(bytes);
+    let read = file_network::read_network(bytes);
     let answer = read.answer;
     let net = read.net;
     show_answer(answer, net.elements, net.links, 0);
 }
 
 fn try_both(bytes: &[u8]) {
-    let read = judge_input::read_network_and_plan(bytes);
+    let read = file_both::read_network_and_plan(bytes);
     let answer = read.answer;
     let net = read.net;
     let plan = read.plan;
@@ -288,7 +288,7 @@ fn try_both(bytes: &[u8]) {
 }
 
 fn try_plan(bytes: &[u8], at: usize) {
-    let read = plan_file::read_plan(bytes, at, 5);
+    let read = file_plan::read_plan(bytes, at, 5);
     let answer = read.answer;
     let plan = read.plan;
     show_answer(answer, 0, 0, wide(plan.steps));
@@ -341,7 +341,7 @@ fn write_into(plan: Plan, buffer: &mut [u8], length: usize) {
         return;
     }
     text(b"write");
-    let written = plan_writer::write_plan(plan, &mut buffer[..length]);
+    let written = file_writer::write_plan(plan, &mut buffer[..length]);
     match written {
         Written::Refused(refusal) => show_refusal(refusal),
         Written::Bytes(n) => field(n),
@@ -371,7 +371,7 @@ fn show_entries(net: Network) {
 
 // What is read of both files, and their plan written again.
 fn show_contents(bytes: &[u8]) {
-    let read = judge_input::read_network_and_plan(bytes);
+    let read = file_both::read_network_and_plan(bytes);
     let net = read.net;
     let plan = read.plan;
     show_entries(net);

@@ -3,12 +3,12 @@
 use mathlib.Core.Path.{_≡_, refl}
 use mathlib.Core.List.{map}
 use Rattle.network.specs.Networks.{emptyNetwork}
-use Rattle.stages.specs.Stages.{nextStage}
-use Rattle.fields.specs.Fields.{word, lengthOf, headRules, elementRules, linkRules, planHeadRules, stepRules, fieldRules}
-use Rattle.records.specs.Records.{frameRules, recordRules, dueAt}
-use Rattle.network_file.specs.Runs.{records}
-use Rattle.network_file.specs.NetworkFiles.{elementOf, linkOf, withElement, withLink, endOn, linksOn, elementsOn, networkFile}
-use Rattle.network_file.specs.Inputs.{networkInput, networkRead}
+use Rattle.file_stages.specs.Stages.{nextStage}
+use Rattle.file_fields.specs.Fields.{word, lengthOf, headRules, elementRules, linkRules, planHeadRules, stepRules, fieldRules}
+use Rattle.file_records.specs.Records.{frameRules, recordRules, dueAt}
+use Rattle.file_network.specs.Runs.{records}
+use Rattle.file_network.specs.NetworkFiles.{elementOf, linkOf, withElement, withLink, endOn, linksOn, elementsOn, networkFile}
+use Rattle.file_network.specs.Inputs.{networkInput, networkRead}
 use Rattle.feeding.specs.Below.{sumTo, allTo, anyTo, leastTo, lowestFrom, lowest, those, tabulate}
 use Rattle.feeding.specs.Networks.{gridOf, netOf}
 use Rattle.feeding.specs.Parts.{touches, far, relabel, merge, link, labels, label, joined?, sound?, live?}
@@ -17,20 +17,20 @@ use Rattle.feeding.specs.Safety.{loopAt, looped?, paired?, faultLive?, treePlac
 use Rattle.feeding.specs.Restoration.{spoiled?, clean, restorable?, waits?, operable?, operables, restored?, fedLoad, darkLoad, lostLoad}
 use Rattle.feeding.specs.Plans.{put, run, costOf, sweep, printedForm, flip, setCost}
 use Rattle.feeding.specs.Acceptance.{brokenAt, safety, limited, andThen, acceptance}
-use Rattle.acceptance.specs.Reading.{handedOut, acceptedFrom, acceptedRead}
-use Rattle.planning.specs.Choosing.{works?, firstIf, noDearer, better, best, planned}
-use Rattle.sums.specs.Sums.{sumsAfter}
-use Rattle.plan_file.specs.PlanFiles.{emptyPlan, withStep, planEndOn, stepsOn, planFile}
-use Rattle.plan_file.specs.Inputs.{planInput}
-use Rattle.judge_input.specs.Inputs.{planBehind, bothInput, bothRead}
-use Rattle.printed.specs.Printing.{withOne, planWith, stepsTo, stepsOf}
-use Rattle.plan_writer.specs.Writing.{planHeadBytes, stepBytes, endBytes}
+use Rattle.feeding_acceptance.specs.Reading.{handedOut, acceptedFrom, acceptedRead}
+use Rattle.plan_problem.specs.Choosing.{works?, firstIf, noDearer, better, best, planned}
+use Rattle.plan_sums.specs.Sums.{sumsAfter}
+use Rattle.file_plan.specs.PlanFiles.{emptyPlan, withStep, planEndOn, stepsOn, planFile}
+use Rattle.file_plan.specs.Inputs.{planInput}
+use Rattle.file_both.specs.Inputs.{planBehind, bothInput, bothRead}
+use Rattle.plan_form.specs.Printing.{withOne, planWith, stepsTo, stepsOf}
+use Rattle.file_writer.specs.Writing.{planHeadBytes, stepBytes, endBytes}
 use Rattle.texts.specs.Texts.{digits, decimal, field, lineOf, refusedLine}
-use Rattle.lines.specs.Lines.{planLine, stepLine, stepLines, loadLine, planLines, noneLines}
-use Rattle.outcomes.specs.Outcomes.{plannedBy, unplanned, outcomeFrom, outcomeOf, outcomeAnswered, outcomeRead, outcome}
+use Rattle.plan_lines.specs.Lines.{planLine, stepLine, stepLines, loadLine, planLines, noneLines}
+use Rattle.plan_outcome.specs.Outcomes.{plannedBy, unplanned, outcomeFrom, outcomeOf, outcomeAnswered, outcomeRead, outcome}
 use Rattle.planner.specs.Replies.{linesWith, linesOf}
-use Rattle.marking.specs.Marks.{examined, firstBad, stepExamined, stepsExamined, darkPlace, scoredBy, markAt, markAfter, markBy, costIn, cheapestCost, markOf}
-use Rattle.mark_lines.specs.MarkLines.{markLine}
+use Rattle.judge_marks.specs.Marks.{examined, firstBad, stepExamined, stepsExamined, darkPlace, scoredBy, markAt, markAfter, markBy, costIn, cheapestCost, markOf}
+use Rattle.judge_line.specs.MarkLines.{markLine}
 use Rattle.judge.specs.Judging.{markAccepted, markRead, markOfRead, markFor}
 use Rattle.starred.specs.Tables.{head, element, joins, networkB, networkD, noSteps, closing, text, prints, plans, marks, cases}
 

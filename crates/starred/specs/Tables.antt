@@ -5,10 +5,10 @@ use mathlib.Core.List.{List, [], _∷_, _++_}
 use Prim.Native.Nat.{ℕ}
 use Prim.Native.Char.{code}
 use Prim.Native.String.{String, [] as empty, _∷_ as _before_}
-use Rattle.plan_writer.specs.Writing.{number, planHeadBytes, stepBytes, endBytes}
-use Rattle.outcomes.specs.Outcomes.{outcome}
+use Rattle.file_writer.specs.Writing.{number, planHeadBytes, stepBytes, endBytes}
+use Rattle.plan_outcome.specs.Outcomes.{outcome}
 use Rattle.planner.specs.Replies.{linesOf}
-use Rattle.mark_lines.specs.MarkLines.{markLine}
+use Rattle.judge_line.specs.MarkLines.{markLine}
 use Rattle.judge.specs.Judging.{markFor}
 
 -- ---- files

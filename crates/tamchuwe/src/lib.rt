@@ -10,10 +10,10 @@ use planner::plan_into;
 use planner::plan_text;
 ghost use mathlib.Core.Path.{_≡_};
 ghost use lib.ListN.{length};
-ghost use Rattle.outcomes.specs.Outcomes.{outcome};
+ghost use Rattle.plan_outcome.specs.Outcomes.{outcome};
 ghost use Rattle.planner.specs.Replies.{replyFor, bufferFor, linesOf};
 ghost use Rattle.judge.specs.Judging.{markFor};
-ghost use Rattle.mark_lines.specs.MarkLines.{markLine};
+ghost use Rattle.judge_line.specs.MarkLines.{markLine};
 ghost use Rattle.host_values.specs.Values.{replyKind, replyValues, markKind, markValues};
 ghost use Rattle.host_texts.specs.Fitting.{textIn};
 

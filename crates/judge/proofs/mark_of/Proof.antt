@@ -1,7 +1,7 @@
 -- `judge::mark_of` meets its contract: each arm's mark is the definition's, and this keeps what the paper says.
 -- Assumes nothing.
 use native.Mathlib.Omega.{arith}
-use Rattle.judge.proofs.Turns.{returned, unread-mark, unaccepted-mark, plan-mark, read-starts, read-plan, read-network}
+use Rattle.judge.proofs.Ways.{returned, unread-mark, unaccepted-mark, plan-mark, read-starts, read-plan, read-network}
 use borrow.Author.Needs.{needs}
 use Rattle.judge.proofs.mark_of.Statement.{statement}
 use Rattle.judge.proofs.mark_of.Tie as tie

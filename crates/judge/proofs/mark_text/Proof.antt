@@ -1,6 +1,6 @@
 -- `judge::mark_text` meets its contract: the mark's line is put in front.
 -- Assumes nothing.
-use Rattle.judge.proofs.Turns.{printed-mark}
+use Rattle.judge.proofs.Ways.{printed-mark}
 use borrow.Author.Needs.{needs}
 use Rattle.judge.proofs.mark_text.Statement.{statement}
 use Rattle.judge.proofs.mark_text.Tie as tie

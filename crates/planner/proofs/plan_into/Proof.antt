@@ -1,7 +1,7 @@
 -- The outcome's plan is written where there is one; every other reply leaves the buffer alone.
 -- Assumes nothing.
 use native.Mathlib.Omega.{arith}
-use Rattle.outcomes.specs.Outcomes.{outcome}
+use Rattle.plan_outcome.specs.Outcomes.{outcome}
 use Rattle.planner.proofs.Cases.{plan-reply, plan-buffer, none-reply, none-buffer, refused-reply, refused-buffer}
 use Rattle.planner.proofs.Promises.{returned-kept}
 use borrow.Author.Needs.{needs}

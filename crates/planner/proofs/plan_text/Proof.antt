@@ -1,7 +1,7 @@
 -- The lines of the outcome's reply are put in front.
 -- Assumes nothing.
 use native.Mathlib.Omega.{arith}
-use Rattle.outcomes.specs.Outcomes.{outcome}
+use Rattle.plan_outcome.specs.Outcomes.{outcome}
 use Rattle.planner.proofs.Cases.{plan-printed, none-printed, refused-printed}
 use Rattle.planner.proofs.Promises.{printed-kept}
 use borrow.Author.Needs.{needs}

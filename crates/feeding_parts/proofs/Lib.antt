@@ -1,0 +1,5 @@
+pub mod Grids
+pub mod Lasts
+pub mod Loops
+pub mod Roots
+pub mod Relabelling

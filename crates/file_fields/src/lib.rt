@@ -1,0 +1,155 @@
+// The fields of a record: the numbers in it, and document 01's rules 5 to 12 on those of each kind.
+use network::Network;
+use network::refusal::Rule;
+use network::refusal::Verdict;
+ghost use mathlib.Core.Path.{_≡_};
+ghost use Prim.Native.Nat.{_+_, _<_, _≤_};
+ghost use lib.Dec.{eqb, ltb, leb};
+ghost use lib.ListN.{length};
+ghost use Rattle.network.specs.Refusals.{firstBroken};
+ghost use Rattle.network.specs.Accepted.{suits};
+ghost use Rattle.file_fields.specs.Fields.{word, lengthOf, either, headRules, elementRules, linkRules, planHeadRules, stepRules, fieldRules};
+
+// The number of two bytes at an offset, low byte first.
+pub fn word_at(s: &[u8], at: usize) -> u16
+    requires { ⌜ at + 1 < length (now s) ⌝ }
+    ensures { λ r. ⌜ r ≡ word (now (s .entry)) at ⌝ }
+{
+    let low = s[at] as u16;
+    let high = s[at + 1] as u16;
+    low + 256 * high
+}
+
+// E is 1 to 64, K is 0 to 96.
+fn out_of_range(elements: usize, links: usize) -> bool
+    ensures { λ r. ⌜ r ≡ either (eqb elements 0) (either (ltb 64 elements) (ltb 96 links)) ⌝ }
+{
+    if elements == 0 {
+        return true;
+    }
+    if Network::MAX_ELEMENTS < elements {
+        return true;
+    }
+    Network::MAX_LINKS < links
+}
+
+// Rule 5.
+fn head_rules(s: &[u8], at: usize) -> Verdict
+    requires { ⌜ at + 8 ≤ length (now s) ⌝ }
+    ensures { λ r. ⌜ r ≡ firstBroken (headRules (now (s .entry)) at) ⌝ }
+{
+    let elements = word_at(s, at + 4) as usize;
+    let links = word_at(s, at + 6) as usize;
+    if out_of_range(elements, links) {
+        return Verdict::Broken(Rule::HeadOutOfRange);
+    }
+    Verdict::Kept
+}
+
+// Rule 6.
+fn element_rules(s: &[u8], at: usize) -> Verdict
+    requires { ⌜ at + 10 ≤ length (now s) ⌝ }
+    ensures { λ r. ⌜ r ≡ firstBroken (elementRules (now (s .entry)) at) ⌝ }
+{
+    if 3 < word_at(s, at + 8) {
+        return Verdict::Broken(Rule::UnknownFlags);
+    }
+    Verdict::Kept
+}
+
+// A fixed link costs 0, a switch at least 1.
+fn cost_suits(form: u16, cost: u16) -> bool
+    ensures { λ r. ⌜ r ≡ suits form cost ⌝ }
+{
+    if form == 0 {
+        return cost == 0;
+    }
+    cost != 0
+}
+
+// An end of E or more, or two equal ends.
+fn bad_ends(elements: usize, from: usize, to: usize) -> bool
+    ensures { λ r. ⌜ r ≡ either (leb elements from) (either (leb elements to) (eqb from to)) ⌝ }
+{
+    if elements <= from {
+        return true;
+    }
+    if elements <= to {
+        return true;
+    }
+    from == to
+}
+
+// Rules 7 to 9.
+fn link_rules(s: &[u8], at: usize, elements: usize) -> Verdict
+    requires { ⌜ at + 12 ≤ length (now s) ⌝ }
+    ensures { λ r. ⌜ r ≡ firstBroken (linkRules (now (s .entry)) at elements) ⌝ }
+{
+    let from = word_at(s, at + 4) as usize;
+    let to = word_at(s, at + 6) as usize;
+    if bad_ends(elements, from, to) {
+        return Verdict::Broken(Rule::BadEnds);
+    }
+    let form = word_at(s, at + 8);
+    if 2 < form {
+        return Verdict::Broken(Rule::UnknownForm);
+    }
+    if !cost_suits(form, word_at(s, at + 10)) {
+        return Verdict::Broken(Rule::UnsuitedCost);
+    }
+    Verdict::Kept
+}
+
+// Rule 10.
+fn plan_head_rules(s: &[u8], at: usize) -> Verdict
+    requires { ⌜ at + 6 ≤ length (now s) ⌝ }
+    ensures { λ r. ⌜ r ≡ firstBroken (planHeadRules (now (s .entry)) at) ⌝ }
+{
+    if 255 < word_at(s, at + 4) {
+        return Verdict::Broken(Rule::TooManySteps);
+    }
+    Verdict::Kept
+}
+
+// Rules 11 and 12.
+fn step_rules(s: &[u8], at: usize, links: usize) -> Verdict
+    requires { ⌜ at + 8 ≤ length (now s) ⌝ }
+    ensures { λ r. ⌜ r ≡ firstBroken (stepRules (now (s .entry)) at links) ⌝ }
+{
+    let link = word_at(s, at + 4) as usize;
+    let state = word_at(s, at + 6) as usize;
+    if links <= link {
+        return Verdict::Broken(Rule::UnknownLink);
+    }
+    if 2 <= state {
+        return Verdict::Broken(Rule::UnknownState);
+    }
+    Verdict::Kept
+}
+
+// Rules 5 to 12, those that speak of a record of this kind.
+pub fn field_rules(s: &[u8], at: usize, kind: u16, elements: usize, links: usize) -> Verdict
+    requires { ⌜ at + lengthOf kind ≤ length (now s) ⌝ }
+    ensures { λ r. ⌜ r ≡ firstBroken (fieldRules (now (s .entry)) at kind elements links) ⌝ }
+{
+    match kind {
+        1 => {
+            return head_rules(s, at);
+        }
+        2 => {
+            return element_rules(s, at);
+        }
+        3 => {
+            return link_rules(s, at, elements);
+        }
+        5 => {
+            return plan_head_rules(s, at);
+        }
+        6 => {
+            return step_rules(s, at, links);
+        }
+        _ => {
+            return Verdict::Kept;
+        }
+    }
+}

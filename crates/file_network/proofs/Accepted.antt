@@ -1,0 +1,99 @@
+-- A network file that is read whole is well formed: what it states is what is kept, and by the rules that each of its records keeps.
+-- Assumes nothing.
+use mathlib.Core.Path.{_≡_, sym, _∙_}
+use mathlib.Core.Bool.{true}
+use mathlib.Core.List.{List}
+use Prim.Native.Nat.{ℕ, _+_, _^_, _<_, _≤_}
+use native.Mathlib.Omega.{arith}
+use lib.ListN.{getD}
+use Rattle.file_stages.specs.declared.Stage.{Stage}
+use Rattle.file_stages.specs.declared.Stage.the-variants.{Elements, Links}
+use Rattle.network.specs.declared.Element.{Element}
+use Rattle.network.specs.declared.Link.{Link}
+use Rattle.network.specs.declared.Network.{Network}
+use Rattle.file_fields.specs.Fields.{word}
+use Rattle.network.specs.Accepted.{suits}
+use Rattle.file_network.specs.Runs.{reached}
+use Rattle.file_network.specs.NetworkFiles.{elementOf, linkOf, networkFile}
+use Rattle.network.specs.Accepted.{WellFormed}
+use Rattle.file_records.proofs.Due.{Whole, kind-there, as-kind, element-kept, link-kept}
+use Rattle.file_network.proofs.Sizes.{network-size}
+use Rattle.file_network.proofs.Contents.{network-holds}
+
+-- "Numbers are unsigned, two bytes"
+pub word-bound : (s : List ℕ) → ((i : ℕ) → getD s i 0 < 256) → (at : ℕ) → word s at < 65536
+unfolding word
+word-bound s bytes at = omega (arith, bytes at, bytes (at + 1))
+
+-- What the rules promise of an element and of a link, of whichever kind its record is.
+
+pub record ElementIn (e : Element) : Type 0 where
+  pub load-in : e .load < 2 ^ 32
+  pub capacity-in : e .capacity < 2 ^ 32
+  pub flags-in : e .flags ≤ 3
+
+pub record LinkIn (elements : ℕ) (l : Link) : Type 0 where
+  pub from-in : l .from < elements
+  pub to-in : l .to < elements
+  pub differ : l .from ≡ l .to → ⊥
+  pub form-in : l .form ≤ 2
+  pub cost-in : l .cost < 65536
+  pub suited : suits (l .form) (l .cost) ≡ true
+
+module _ {s : List ℕ} {elements links at kind long : ℕ} {next : Stage} (bytes : (i : ℕ) → getD s i 0 < 256) where
+  pub element-in : Whole s elements links at Elements kind long next → ElementIn (elementOf s at)
+  unfolding elementOf
+  element-in w =
+      record {
+        load-in = omega (arith, word-bound s bytes (at + 4));
+        capacity-in = omega (arith, word-bound s bytes (at + 6));
+        flags-in = element-kept (as-kind (kind-there w) w);
+      }
+
+  pub link-in : Whole s elements links at Links kind long next → LinkIn elements (linkOf s at)
+  unfolding linkOf
+  link-in w =
+      let kept = link-kept (as-kind (kind-there w) w) in
+      record {
+        from-in = kept .from-in;
+        to-in = kept .to-in;
+        differ = kept .differ;
+        form-in = kept .form-in;
+        cost-in = word-bound s bytes (at + 10);
+        suited = kept .suited;
+      }
+
+pub network-well-formed :
+    (s : List ℕ) (at : ℕ) (stage : Stage) (n : Network) →
+    ((i : ℕ) → getD s i 0 < 256) →
+    networkFile s ≡ reached at stage n →
+    WellFormed n
+network-well-formed s at stage n bytes h =
+    let size = network-size s at stage n h in
+    let holds = network-holds s at stage n h in
+    let counts = size .links .elements .counts in
+    let element : (i : ℕ) (lt : i < n .elements) → ElementIn (elementOf s (holds .element i lt .found .place)) =
+    λ i lt. element-in bytes (holds .element i lt .found .whole) in
+    let link : (l : ℕ) (lt : l < n .links) → LinkIn (word s 4) (linkOf s (holds .link l lt .found .place)) =
+    λ l lt. link-in bytes (holds .link l lt .found .whole) in
+    record {
+      some = omega (arith, counts .some, size .links .elements-are);
+      elements-fit = omega (arith, counts .elements-fit, size .links .elements-are);
+      links-fit = omega (arith, counts .links-fit, size .links .links-are);
+      load-long = holds .long .load-long;
+      capacity-long = holds .long .capacity-long;
+      flags-long = holds .long .flags-long;
+      from-long = holds .long .from-long;
+      to-long = holds .long .to-long;
+      form-long = holds .long .form-long;
+      cost-long = holds .long .cost-long;
+      load-in = λ i lt. rw (holds .element i lt .load-is) (element i lt .load-in);
+      capacity-in = λ i lt. rw (holds .element i lt .capacity-is) (element i lt .capacity-in);
+      flags-in = λ i lt. rw (holds .element i lt .flags-is) (element i lt .flags-in);
+      from-in = λ l lt. omega (arith, holds .link l lt .from-is, size .links .elements-are, link l lt .from-in);
+      to-in = λ l lt. omega (arith, holds .link l lt .to-is, size .links .elements-are, link l lt .to-in);
+      differ = λ l lt e. link l lt .differ (sym (holds .link l lt .from-is) ∙ e ∙ holds .link l lt .to-is);
+      form-in = λ l lt. rw (holds .link l lt .form-is) (link l lt .form-in);
+      cost-in = λ l lt. rw (holds .link l lt .cost-is) (link l lt .cost-in);
+      suited = λ l lt. rw (holds .link l lt .form-is, holds .link l lt .cost-is) (link l lt .suited);
+    }

@@ -1,0 +1,154 @@
+-- `network_file::reader::read_links` reads so many links: at each turn what is left to read gives the whole outcome.
+-- Assumes nothing.
+use mathlib.Core.Path.{_≡_, refl, ap, sym, _∙_}
+use Prim.Native.Nat.{_+_, _-_, _<_, _≤_}
+use native.Mathlib.Omega.{arith}
+use Rattle.file_stages.specs.declared.Stage.the-variants.{Links}
+use Rattle.file_network.specs.Runs.{records}
+use Rattle.file_network.specs.NetworkFiles.{withLink}
+use Rattle.file_network.specs.Inputs.{networkPart}
+use Rattle.file_network.proofs.Outcomes.{Turn, run-done, run-refused, run-turn, turn-whole}
+use Rattle.file_network.proofs.Taken.{link-taken}
+use borrow.Author.Needs.{needs}
+use Rattle.file_network.proofs.reader.read_links.Statement.{statement}
+use Rattle.file_network.proofs.reader.read_links.Tie as tie
+
+abbrev Inv-loop : tie.InvT-loop
+Inv-loop s count start e net₀ at₀ stage₀ left₀ net at stage left =
+    (stage ≡ Links) × (net .links + left ≤ 96) × (records s (net₀ .elements) 0 (withLink s) left at stage net ≡ records s (net₀ .elements) 0
+    (withLink s) left₀ at₀ stage₀ net₀)
+
+abbrev μ-loop : tie.MeasureT-loop
+μ-loop s count start e net₀ at₀ stage₀ left₀ net at stage left = left
+
+loop-holds : tie.Need-loop-holds Inv-loop μ-loop
+loop-holds c =
+    let pre = c .before .pre in
+    (pre .1, pre .0, refl)
+
+record-due-requires : tie.Need-record-due-requires Inv-loop μ-loop
+record-due-requires c κs = tt
+
+enum-known-found : tie.Need-enum-known-found Inv-loop μ-loop
+enum-known-found c = search needs
+
+refused-network-requires : tie.Need-refused-network-requires Inv-loop μ-loop
+refused-network-requires c κs = tt
+
+returns : tie.Need-returns Inv-loop μ-loop
+returns c =
+    let args = c .before .before .before .before .before .before .before .before .args in
+    let loop = c .before .before .before .before .before .before .loop in
+    let record-due = c .before .before .before .before .record-due in
+    c .refused-network .ensures ∙
+    ap networkPart
+    (run-refused (args .s .now) (args .elements .elements) 0 (withLink (args .s .now)) _ (loop .left) (loop .at) (loop .stage) (loop .net)
+    (loop .inv .2) _ (omega arith) (record-due .ensures) _ (c .before .before .found .given .1))
+
+enum-known-found-2 : tie.Need-enum-known-found-2 Inv-loop μ-loop
+enum-known-found-2 c = search needs
+
+-- the record found in a turn
+turn :
+    (c : tie.After-known-told2 Inv-loop μ-loop) →
+    Turn (c .before .before .before .before .before .before .before .args .s .now) (c .before .before .before .before .before .loop .at) Links
+    (c .before .found2 .given .0 .1 .0) (c .before .found2 .given .0 .1 .1 .0)
+turn c =
+    let args = c .before .before .before .before .before .before .before .args in
+    let loop = c .before .before .before .before .before .loop in
+    turn-whole (args .s .now) (args .elements .elements) 0 (loop .at) (loop .stage) Links _ _ _ _ (c .before .before .before .record-due .ensures)
+    (loop .inv .0) (c .before .found2 .given .1)
+
+link-at-requires : tie.Need-link-at-requires Inv-loop μ-loop
+link-at-requires c κs = let w = turn c in omega arith
+
+mul-net : tie.Need-mul-net Inv-loop μ-loop
+mul-net c = omega arith
+
+element-write-net : tie.Need-element-write-net Inv-loop μ-loop
+element-write-net c = omega arith
+
+mul-net-2 : tie.Need-mul-net-2 Inv-loop μ-loop
+mul-net-2 c = omega arith
+
+element-write-net-2 : tie.Need-element-write-net-2 Inv-loop μ-loop
+element-write-net-2 c = omega arith
+
+mul-net-3 : tie.Need-mul-net-3 Inv-loop μ-loop
+mul-net-3 c = omega arith
+
+element-write-net-3 : tie.Need-element-write-net-3 Inv-loop μ-loop
+element-write-net-3 c = omega arith
+
+mul-net-4 : tie.Need-mul-net-4 Inv-loop μ-loop
+mul-net-4 c = omega arith
+
+element-write-net-4 : tie.Need-element-write-net-4 Inv-loop μ-loop
+element-write-net-4 c = omega arith
+
+add-net : tie.Need-add-net Inv-loop μ-loop
+add-net c = omega arith
+
+cast-at : tie.Need-cast-at Inv-loop μ-loop
+cast-at c = search needs
+
+add-at : tie.Need-add-at Inv-loop μ-loop
+add-at c = let w = turn (c .before) in omega arith
+
+sub-left : tie.Need-sub-left Inv-loop μ-loop
+sub-left c = omega arith
+
+loop-less : tie.Need-loop-less Inv-loop μ-loop
+loop-less c = omega arith
+
+loop-again : tie.Need-loop-again Inv-loop μ-loop
+loop-again c =
+    let args = c .before .before .before .before .before .before .before .before .args in
+    let loop = c .before .before .before .before .before .before .loop in
+    let record-due = c .before .before .before .before .record-due in
+    let w = turn (c .before) in (
+      w .next-is,
+      omega arith,
+      ap (records (args .s .now) (args .elements .elements) 0 (withLink (args .s .now)) (loop .left - 1) _ _)
+          (link-taken (args .s .now) (loop .at) (loop .net) _ (c .link-at .ensures)) ∙
+          run-turn (args .s .now) (args .elements .elements) 0 (withLink (args .s .now)) _ (loop .left) (loop .at) (loop .stage) (loop .net)
+          (loop .inv .2) _ (omega arith) (record-due .ensures) _ _ _ (c .before .before .found2 .given .1),
+    )
+
+returns-2 : tie.Need-returns-2 Inv-loop μ-loop
+unfolding networkPart
+returns-2 c =
+    let args = c .before .before .before .args in
+    let loop = c .before .loop in
+    ap networkPart
+    (run-done (args .s .now) (args .elements .elements) 0 (withLink (args .s .now)) _ (loop .left) (loop .at) (loop .stage) (loop .net) (loop .inv .2)
+    (c .loop-test .left))
+
+pub read-links-spec : {M : Type 1} → statement M
+read-links-spec =
+    tie.close
+    (tie.spec
+    Inv-loop
+    μ-loop
+    loop-holds
+    record-due-requires
+    enum-known-found
+    refused-network-requires
+    returns
+    enum-known-found-2
+    link-at-requires
+    mul-net
+    element-write-net
+    mul-net-2
+    element-write-net-2
+    mul-net-3
+    element-write-net-3
+    mul-net-4
+    element-write-net-4
+    add-net
+    cast-at
+    add-at
+    sub-left
+    loop-less
+    loop-again
+    returns-2)

@@ -1,0 +1,34 @@
+-- Document 01, "Files": what reading gives, and a run of records.
+-- Assumes nothing.
+use mathlib.Core.List.{List}
+use Prim.Native.Nat.{ℕ, zero, suc, _+_}
+use Rattle.file_records.specs.declared.Found.{Found}
+use Rattle.file_records.specs.declared.Found.the-variants.{Record, Refused as Found·Refused}
+use Rattle.network.specs.declared.refusal.Refusal.{Refusal}
+use Rattle.file_stages.specs.declared.Stage.{Stage}
+use Rattle.file_records.specs.Records.{dueAt}
+
+-- what reading gives: the first refusal, or the offset and the stage of the record that is due next, with what was read
+pub data Reading (A : Type 0) : Type 0 where
+  refused : Refusal → Reading A
+  reached : ℕ → Stage → A → Reading A
+
+abbrev pub readOn : {A B : Type 0} → Reading A → (ℕ → Stage → A → Reading B) → Reading B
+readOn (refused r) f = refused r
+readOn (reached at stage a) f = f at stage a
+
+abbrev pub onFound : {A : Type 0} → Found → (ℕ → Stage → Reading A) → Reading A
+onFound (Record kind long next) f = f long next
+onFound (Found·Refused r) f = refused r
+
+-- "Records are read from the front, rules 1 to 12 within each record": so many records from an offset and a stage on, each
+-- taken in by `into` where it breaks no rule
+unfoldable pub records : {A : Type 0} (s : List ℕ) (elements links : ℕ) (into : ℕ → A → A) → ℕ → ℕ → Stage → A → Reading A
+records s elements links into zero at stage a = reached at stage a
+records s elements links into (suc count) at stage a =
+    onFound (dueAt s elements links at stage)
+    (λ long next. records s elements links into count (at + long) next (into at a))
+
+-- a head or an end record, of which nothing is kept
+abbrev pub asIs : {A : Type 0} → ℕ → A → A
+asIs at a = a

@@ -1,0 +1,37 @@
+-- Document 01, "Files": the plan file.
+-- Assumes nothing.
+use mathlib.Core.Bool.{false}
+use mathlib.Core.List.{List}
+use Prim.Native.Nat.{ℕ, _+_}
+use lib.Dec.{eqb}
+use lib.ListN.{set, replicate}
+use Rattle.file_stages.specs.declared.Stage.{Stage}
+use Rattle.file_stages.specs.declared.Stage.the-variants.{PlanHead}
+use Rattle.file_fields.specs.Fields.{word}
+use Rattle.file_stages.specs.Stages.{afterLast}
+use Rattle.file_network.specs.Runs.{Reading, readOn, records, asIs}
+use Rattle.file_plan.specs.declared.plan.Plan.{Plan}
+
+unfoldable pub emptyPlan : Plan
+emptyPlan = record { link = replicate 255 0; close = replicate 255 false; steps = 0 }
+
+-- Kind 6: link number, state wanted (0 open, 1 closed)
+unfoldable pub withStep : List ℕ → ℕ → Plan → Plan
+withStep s at p =
+    record {
+      link = set (p .link) (p .steps) (word s (at + 4));
+      close = set (p .close) (p .steps) (eqb (word s (at + 6)) 1);
+      steps = p .steps + 1;
+    }
+
+-- "A plan file is one plan head, its steps, one end." The head stands at an offset: the count of steps is the number 4 bytes on.
+unfoldable pub planEndOn : List ℕ → ℕ → ℕ → Stage → Plan → Reading Plan
+planEndOn s links at stage p = records s 0 links asIs 1 at stage p
+
+unfoldable pub stepsOn : List ℕ → ℕ → ℕ → ℕ → Stage → Plan → Reading Plan
+stepsOn s links head at stage p =
+    readOn (records s 0 links (withStep s) (word s (head + 4)) at stage p)
+    (λ after next plan. planEndOn s links after (afterLast next) plan)
+
+unfoldable pub planFile : List ℕ → ℕ → ℕ → Reading Plan
+planFile s links at = readOn (records s 0 links asIs 1 at PlanHead emptyPlan) (stepsOn s links at)

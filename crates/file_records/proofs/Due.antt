@@ -1,0 +1,357 @@
+-- What `recordAt` and `dueAt` promise of the record they find or refuse: where no rule of a list is broken, each of its tests is false, and the stage decides which kinds may come and how long they are.
+-- Assumes nothing.
+use mathlib.Core.Path.{_≡_, refl, sym, ap, subst, _∙_}
+use mathlib.Core.Bool.{Bool, true, false}
+use mathlib.Core.List.{List, [], _∷_, _++_}
+use Prim.Native.Nat.{ℕ, _+_, _-_, _<_, _≤_}
+use native.Mathlib.Omega.{arith}
+use lib.Dec.{eqb, ltb, leb}
+use lib.ListN.{length}
+use borrow.Author.Tests.{ltb-false, leb-false, eqb-true, eqb-false, not-false}
+use Rattle.network.specs.declared.refusal.Refusal.{Refusal}
+use Rattle.network.specs.declared.refusal.Rule.{Rule}
+use Rattle.network.specs.declared.refusal.Verdict.{Verdict}
+use Rattle.network.specs.declared.refusal.Verdict.the-variants.{Kept, Broken}
+use Rattle.file_stages.specs.declared.Stage.{Stage}
+use Rattle.file_stages.specs.declared.Stage.the-variants.{Head, Elements, Links, End, PlanHead, Steps, PlanEnd, Over}
+use Rattle.file_stages.specs.declared.Next.{Next}
+use Rattle.file_stages.specs.declared.Next.the-variants.{Go, Refused as Next·Refused}
+use Rattle.file_records.specs.declared.Found.the-variants.{Record, Refused}
+use Rattle.network.specs.Refusals.{Check, pick, firstBroken}
+use Rattle.file_stages.specs.Stages.{goesTo, nextStage}
+use Rattle.network.specs.Accepted.{suits}
+use Rattle.file_fields.specs.Fields.{word, lengthOf, either, headRules, elementRules, linkRules, planHeadRules, stepRules, fieldRules}
+use Rattle.file_records.specs.Records.{lengthField, kindField, isRefused, named, foundBy, frameRules, recordRules, recordAt, dueAt}
+
+-- The first broken of two lists of rules.
+
+abbrev pub elseFirst : Verdict → Verdict → Verdict
+elseFirst Kept v = v
+elseFirst (Broken r) v = Broken r
+
+pub first-append : (a b : List Check) → firstBroken (a ++ b) ≡ elseFirst (firstBroken a) (firstBroken b)
+first-append [] b = refl
+first-append (c ∷ cs) b = rw (first-append cs b) (under (c .broken))
+  where
+    under : (t : Bool) →
+        pick t (Broken (c .rule)) (elseFirst (firstBroken cs) (firstBroken b)) ≡
+        elseFirst (pick t (Broken (c .rule)) (firstBroken cs)) (firstBroken b)
+    under true = refl
+    under false = refl
+
+-- Every test of a list is false.
+abbrev pub AllKept : List Check → Type 0
+AllKept [] = Unit
+AllKept (c ∷ cs) = (c .broken ≡ false) × AllKept cs
+
+pub all-kept : (cs : List Check) → firstBroken cs ≡ Kept → AllKept cs
+all-kept [] h = tt
+all-kept (c ∷ cs) h = go (c .broken) refl (all-kept cs)
+  where
+    go : (t : Bool) → c .broken ≡ t → (firstBroken cs ≡ Kept → AllKept cs) → AllKept (c ∷ cs)
+    go true e rest = let z : _≡_ {A = ℕ} 0 1 = cc (rw e at h) in absurd (omega arith)
+    go false e rest = (e, rest (rw e at h))
+
+or-else-kept : (u v : Verdict) → elseFirst u v ≡ Kept → (u ≡ Kept) × (v ≡ Kept)
+or-else-kept Kept v h = (refl, h)
+or-else-kept (Broken r) v h = let z : _≡_ {A = ℕ} 0 1 = cc in absurd (omega arith)
+
+pub first-append-kept : (a b : List Check) → firstBroken (a ++ b) ≡ Kept → (firstBroken a ≡ Kept) × (firstBroken b ≡ Kept)
+first-append-kept a b h = or-else-kept (firstBroken a) (firstBroken b) (sym (first-append a b) ∙ h)
+
+pub either-false : (a b : Bool) → either a b ≡ false → (a ≡ false) × (b ≡ false)
+either-false true b h = let z : _≡_ {A = ℕ} 0 1 = cc in absurd (omega arith)
+either-false false b h = (refl, h)
+
+-- What may come at each stage: its kinds, and the stage that all of them lead to. A second kind at a stage is a second way in `KindAt`.
+
+abbrev pub KindAt : Stage → ℕ → Type 0
+KindAt Head k = k ≡ 1
+KindAt Elements k = k ≡ 2
+KindAt Links k = k ≡ 3
+KindAt End k = k ≡ 4
+KindAt PlanHead k = k ≡ 5
+KindAt Steps k = k ≡ 6
+KindAt PlanEnd k = k ≡ 4
+KindAt Over k = ⊥
+
+abbrev pub nextAt : Stage → Stage
+nextAt Head = Elements
+nextAt Elements = Elements
+nextAt Links = Links
+nextAt End = PlanHead
+nextAt PlanHead = Steps
+nextAt Steps = Steps
+nextAt PlanEnd = Over
+nextAt Over = Over
+
+-- the least and the largest length of the kinds at a stage
+
+abbrev pub shortest : Stage → ℕ
+shortest Head = 8
+shortest Elements = 10
+shortest Links = 12
+shortest End = 4
+shortest PlanHead = 6
+shortest Steps = 8
+shortest PlanEnd = 4
+shortest Over = 0
+
+abbrev pub longest : Stage → ℕ
+longest Head = 8
+longest Elements = 10
+longest Links = 12
+longest End = 4
+longest PlanHead = 6
+longest Steps = 8
+longest PlanEnd = 4
+longest Over = 0
+
+leads-go : (t : Bool) (st next : Stage) → goesTo t st ≡ Go next → (t ≡ true) × (next ≡ st)
+leads-go true st next h = (refl, cc)
+leads-go false st next h = let z : _≡_ {A = ℕ} 0 1 = cc in absurd (omega arith)
+
+leads-one : (k n : ℕ) (st next : Stage) → goesTo (eqb k n) st ≡ Go next → (k ≡ n) × (next ≡ st)
+leads-one k n st next h = let l = leads-go (eqb k n) st next h in (eqb-true k n (l .0), l .1)
+
+pub goes-one-way : (st : Stage) (k : ℕ) (next : Stage) → nextStage st k ≡ Go next → KindAt st k × (next ≡ nextAt st)
+unfolding nextStage
+goes-one-way Head k next h = leads-one k 1 Elements next h
+goes-one-way Elements k next h = leads-one k 2 Elements next h
+goes-one-way Links k next h = leads-one k 3 Links next h
+goes-one-way End k next h = leads-one k 4 PlanHead next h
+goes-one-way PlanHead k next h = leads-one k 5 Steps next h
+goes-one-way Steps k next h = leads-one k 6 Steps next h
+goes-one-way PlanEnd k next h = leads-one k 4 Over next h
+goes-one-way Over k next h = let z : _≡_ {A = ℕ} 0 1 = cc in absurd (omega arith)
+
+-- by cases on the kind: of this kind, or of another
+pub of-kind : (P : ℕ → Type 0) (kind k : ℕ) → P k → (eqb kind k ≡ false → P kind) → P kind
+of-kind P kind k this other = go (eqb kind k) refl
+  where
+    go : (t : Bool) → eqb kind k ≡ t → P kind
+    go true e = rw (eqb-true kind k e) this
+    go false e = other e
+
+-- how long a record at a stage is: at least an end record, and within the stage's bounds
+abbrev pub LengthAt : Stage → ℕ → Type 0
+LengthAt st long = (4 ≤ long) × (shortest st ≤ long) × (long ≤ longest st)
+
+pub length-at : (st : Stage) (k : ℕ) → KindAt st k → LengthAt st (lengthOf k)
+unfolding lengthOf
+length-at Head k e = rw e (omega arith)
+length-at Elements k e = rw e (omega arith)
+length-at Links k e = rw e (omega arith)
+length-at End k e = rw e (omega arith)
+length-at PlanHead k e = rw e (omega arith)
+length-at Steps k e = rw e (omega arith)
+length-at PlanEnd k e = rw e (omega arith)
+length-at Over k e = absurd e
+
+-- What rules 1 to 4 promise of a record.
+pub record Framed (s : List ℕ) (at : ℕ) (stage : Stage) (kind long : ℕ) (next : Stage) : Type 0 where
+  pub kind-is : kind ≡ kindField s at
+  pub long-is : long ≡ lengthField s at
+  pub long-of : long ≡ lengthOf kind
+  pub goes : nextStage stage kind ≡ Go next
+  pub fits : at + long ≤ length s
+  pub least : 4 ≤ long
+  pub enough : shortest stage ≤ long
+  pub most : long ≤ longest stage
+  pub next-at : next ≡ nextAt stage
+
+-- What rules 1 to 12 promise: the tests of rules 5 to 12 that speak of the record's kind are false too.
+pub record Whole (s : List ℕ) (elements links at : ℕ) (stage : Stage) (kind long : ℕ) (next : Stage) : Type 0 where
+  pub framed : Framed s at stage kind long next
+  pub kept : firstBroken (recordRules s elements links at stage) ≡ Kept
+  pub fields : AllKept (fieldRules s at kind elements links)
+
+found-kept :
+    (s : List ℕ) (at : ℕ) (stage : Stage) (v : Verdict) (kind long : ℕ) (next : Stage) →
+    foundBy s at stage v ≡ Record kind long next →
+    (v ≡ Kept) × (kindField s at ≡ kind) × (lengthField s at ≡ long) × (named (nextStage stage (kindField s at)) stage ≡ next)
+found-kept s at stage Kept kind long next h = (refl, cc, cc, cc)
+found-kept s at stage (Broken r) kind long next h = let z : _≡_ {A = ℕ} 0 1 = cc in absurd (omega arith)
+
+found-refused :
+    (s : List ℕ) (at : ℕ) (stage : Stage) (v : Verdict) (r : Refusal) →
+    foundBy s at stage v ≡ Refused r →
+    (v ≡ Broken (r .rule)) × (r .place ≡ at)
+found-refused s at stage Kept r h = let z : _≡_ {A = ℕ} 0 1 = cc in absurd (omega arith)
+found-refused s at stage (Broken x) r h =
+    let q : _≡_ {A = Refusal} (record { rule = x; place = at }) r = cc in
+    (ap Broken (ap (λ (y : Refusal). y .rule) q), sym (ap (λ (y : Refusal). y .place) q))
+
+pub not-refused : (n : Next) (other : Stage) → isRefused n ≡ false → n ≡ Go (named n other)
+not-refused (Go st) other h = refl
+not-refused Next·Refused other h = let z : _≡_ {A = ℕ} 0 1 = cc in absurd (omega arith)
+
+framed-of :
+    (s : List ℕ) (at : ℕ) (stage : Stage) (kind long : ℕ) (next : Stage) →
+    AllKept (frameRules s at stage) →
+    kindField s at ≡ kind →
+    lengthField s at ≡ long →
+    named (nextStage stage (kindField s at)) stage ≡ next →
+    Framed s at stage kind long next
+unfolding frameRules
+framed-of s at stage kind long next h hk hl hn =
+    let goes : nextStage stage kind ≡ Go next = cc (not-refused (nextStage stage (kindField s at)) stage (h .1 .0)) in
+    let one = goes-one-way stage kind next goes in
+    let right : lengthField s at ≡ lengthOf (kindField s at) = eqb-true _ _ (not-false _ (h .1 .1 .0)) in
+    let long-of : long ≡ lengthOf kind = cc in
+    let bounds : LengthAt stage long = rw long-of (length-at stage kind (one .0)) in
+    let enough : lengthField s at ≤ length s - at = ltb-false (length s - at) (lengthField s at) (h .1 .1 .1 .0) in
+    record {
+      kind-is = sym hk;
+      long-is = sym hl;
+      long-of = long-of;
+      goes = goes;
+      fits = omega (arith, bounds .0);
+      least = bounds .0;
+      enough = bounds .1;
+      most = bounds .2;
+      next-at = one .1;
+    }
+
+module _ (s : List ℕ) (at : ℕ) (stage : Stage) where
+  pub frame-kept : {kind long : ℕ} {next : Stage} → recordAt s at stage ≡ Record kind long next → Framed s at stage kind long next
+  unfolding recordAt
+  frame-kept {kind} {long} {next} h =
+      let f = found-kept s at stage (firstBroken (frameRules s at stage)) kind long next h in
+      framed-of s at stage kind long next (all-kept (frameRules s at stage) (f .0)) (f .1) (f .2) (f .3)
+
+  pub frame-refused :
+      {r : Refusal} → recordAt s at stage ≡ Refused r → (firstBroken (frameRules s at stage) ≡ Broken (r .rule)) × (r .place ≡ at)
+  unfolding recordAt
+  frame-refused {r} h = found-refused s at stage (firstBroken (frameRules s at stage)) r h
+
+module _ (s : List ℕ) (elements links at : ℕ) (stage : Stage) where
+  pub due-kept : {kind long : ℕ} {next : Stage} → dueAt s elements links at stage ≡ Record kind long next → Whole s elements links at stage kind long
+      next
+  unfolding dueAt recordRules
+  due-kept {kind} {long} {next} h =
+      let f = found-kept s at stage (firstBroken (recordRules s elements links at stage)) kind long next h in
+      let both = first-append-kept (frameRules s at stage) (fieldRules s at (kindField s at) elements links) (f .0) in
+      let frame = framed-of s at stage kind long next (all-kept (frameRules s at stage) (both .0)) (f .1) (f .2) (f .3) in
+      record {
+        framed = frame;
+        kept = f .0;
+        fields =
+            subst (λ (k : ℕ). AllKept (fieldRules s at k elements links)) (f .1)
+            (all-kept (fieldRules s at (kindField s at) elements links) (both .1));
+      }
+
+  pub due-refused :
+      {r : Refusal} →
+      dueAt s elements links at stage ≡ Refused r →
+      (firstBroken (recordRules s elements links at stage) ≡ Broken (r .rule)) × (r .place ≡ at)
+  unfolding dueAt
+  due-refused {r} h = found-refused s at stage (firstBroken (recordRules s elements links at stage)) r h
+
+  -- `dueAt` is `recordAt`, then the rules of the kind
+  pub due-frame-refused : (r : Refusal) → recordAt s at stage ≡ Refused r → dueAt s elements links at stage ≡ Refused r
+  unfolding recordAt dueAt recordRules
+  due-frame-refused r h =
+      let f = found-refused s at stage (firstBroken (frameRules s at stage)) r h in
+      ap (foundBy s at stage)
+      (first-append (frameRules s at stage) (fieldRules s at (kindField s at) elements links) ∙
+      ap (λ (v : Verdict). elseFirst v (firstBroken (fieldRules s at (kindField s at) elements links))) (f .0)) ∙
+      ap (λ (p : ℕ). Refused (record { rule = r .rule; place = p })) (sym (f .1))
+
+  pub due-fields :
+      (kind long : ℕ) (next : Stage) →
+      recordAt s at stage ≡ Record kind long next →
+      dueAt s elements links at stage ≡ foundBy s at stage (firstBroken (fieldRules s at kind elements links))
+  unfolding recordAt dueAt recordRules
+  due-fields kind long next h =
+      let f = found-kept s at stage (firstBroken (frameRules s at stage)) kind long next h in
+      ap (foundBy s at stage)
+      (first-append (frameRules s at stage) (fieldRules s at (kindField s at) elements links) ∙
+      ap (λ (v : Verdict). elseFirst v (firstBroken (fieldRules s at (kindField s at) elements links))) (f .0) ∙
+      ap (λ (k : ℕ). firstBroken (fieldRules s at k elements links)) (f .1))
+
+  pub due-fields-kept :
+      (kind long : ℕ) (next : Stage) →
+      recordAt s at stage ≡ Record kind long next →
+      firstBroken (fieldRules s at kind elements links) ≡ Kept →
+      dueAt s elements links at stage ≡ Record kind long next
+  unfolding recordAt
+  due-fields-kept kind long next h e =
+      let f = found-kept s at stage (firstBroken (frameRules s at stage)) kind long next h in
+      due-fields kind long next h ∙ ap (foundBy s at stage) (e ∙ sym (f .0)) ∙ h
+
+  pub due-fields-broken :
+      (kind long : ℕ) (next : Stage) (r : Rule) →
+      recordAt s at stage ≡ Record kind long next →
+      firstBroken (fieldRules s at kind elements links) ≡ Broken r →
+      dueAt s elements links at stage ≡ Refused (record { rule = r; place = at })
+  due-fields-broken kind long next r h e = due-fields kind long next h ∙ ap (foundBy s at stage) e
+
+-- What rules 5 to 12 promise of a record: at each stage one of its kinds, and of each kind its own rules.
+
+module _ {s : List ℕ} {elements links at : ℕ} {stage : Stage} {kind long : ℕ} {next : Stage} where
+  pub kind-there : Whole s elements links at stage kind long next → KindAt stage kind
+  kind-there w = goes-one-way stage kind next (w .framed .goes) .0
+
+  -- a record of a kind that is known
+  pub as-kind : {k : ℕ} → kind ≡ k → Whole s elements links at stage kind long next → Whole s elements links at stage k long next
+  as-kind e w = rw e at w
+
+module _ {s : List ℕ} {elements links at kind long : ℕ} {next : Stage} where
+  pub head-kept :
+      Whole s elements links at Head kind long next →
+      record { some : 1 ≤ word s (at + 4); elements-fit : word s (at + 4) ≤ 64; links-fit : word s (at + 6) ≤ 96 }
+  unfolding fieldRules headRules
+  head-kept w =
+      let fields = as-kind (kind-there w) w .fields in
+      let t = either-false (eqb (word s (at + 4)) 0) (either (ltb 64 (word s (at + 4))) (ltb 96 (word s (at + 6)))) (fields .0) in
+      let u = either-false (ltb 64 (word s (at + 4))) (ltb 96 (word s (at + 6))) (t .1) in
+      let ne : (word s (at + 4) ≡ 0) → ⊥ = eqb-false (word s (at + 4)) 0 (t .0) in
+      record {
+        some = omega arith;
+        elements-fit = ltb-false 64 (word s (at + 4)) (u .0);
+        links-fit = ltb-false 96 (word s (at + 6)) (u .1);
+      }
+
+  pub plan-head-kept : Whole s elements links at PlanHead kind long next → word s (at + 4) ≤ 255
+  unfolding fieldRules planHeadRules
+  plan-head-kept w = ltb-false 255 (word s (at + 4)) (as-kind (kind-there w) w .fields .0)
+
+  pub step-kept :
+      Whole s elements links at Steps kind long next →
+      record { link-in : word s (at + 4) < links; state-in : word s (at + 6) ≤ 1 }
+  unfolding fieldRules stepRules
+  step-kept w =
+      let fields = as-kind (kind-there w) w .fields in
+      record {
+        link-in = leb-false links (word s (at + 4)) (fields .0);
+        state-in = ltb-false 1 (word s (at + 6)) (fields .1 .0);
+      }
+
+-- at the stages of elements and links, of each kind by itself
+module _ {s : List ℕ} {elements links at : ℕ} {stage : Stage} {long : ℕ} {next : Stage} where
+  pub element-kept : Whole s elements links at stage 2 long next → word s (at + 8) ≤ 3
+  unfolding fieldRules elementRules
+  element-kept w = ltb-false 3 (word s (at + 8)) (w .fields .0)
+
+  pub link-kept :
+      Whole s elements links at stage 3 long next →
+      record {
+        from-in : word s (at + 4) < elements;
+        to-in : word s (at + 6) < elements;
+        differ : word s (at + 4) ≡ word s (at + 6) → ⊥;
+        form-in : word s (at + 8) ≤ 2;
+        suited : suits (word s (at + 8)) (word s (at + 10)) ≡ true;
+      }
+  unfolding fieldRules linkRules
+  link-kept w =
+      let t = either-false (leb elements (word s (at + 4))) (either (leb elements (word s (at + 6))) (eqb (word s (at + 4)) (word s (at + 6))))
+      (w .fields .0) in
+      let u = either-false (leb elements (word s (at + 6))) (eqb (word s (at + 4)) (word s (at + 6))) (t .1) in
+      record {
+        from-in = leb-false elements (word s (at + 4)) (t .0);
+        to-in = leb-false elements (word s (at + 6)) (u .0);
+        differ = eqb-false (word s (at + 4)) (word s (at + 6)) (u .1);
+        form-in = ltb-false 2 (word s (at + 8)) (w .fields .1 .0);
+        suited = not-false (suits (word s (at + 8)) (word s (at + 10))) (w .fields .1 .1 .0);
+      }

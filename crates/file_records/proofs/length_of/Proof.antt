@@ -1,0 +1,47 @@
+-- `records::length_of` gives each kind its length, and 0 to a number that is no kind.
+-- Assumes nothing.
+use borrow.Author.Tests.{ne-eqb}
+use Rattle.file_fields.specs.Fields.{lengthOf}
+use Rattle.file_records.proofs.length_of.Statement.{statement}
+use Rattle.file_records.proofs.length_of.Tie as tie
+
+returns : tie.Need-returns
+unfolding lengthOf
+returns c = rw (c .match .keys1)
+
+returns-2 : tie.Need-returns-2
+unfolding lengthOf
+returns-2 c = rw (c .match .keys2)
+
+returns-3 : tie.Need-returns-3
+unfolding lengthOf
+returns-3 c = rw (c .match .keys3)
+
+returns-4 : tie.Need-returns-4
+unfolding lengthOf
+returns-4 c = rw (c .match .keys4)
+
+returns-5 : tie.Need-returns-5
+unfolding lengthOf
+returns-5 c = rw (c .match .keys5)
+
+returns-6 : tie.Need-returns-6
+unfolding lengthOf
+returns-6 c = rw (c .match .keys6)
+
+returns-7 : tie.Need-returns-7
+unfolding lengthOf
+returns-7 c =
+    let k = c .before .args .kind in
+    simp (
+      ne-eqb k 1 (c .match .rest .0 .0 .0 .0 .0 .1),
+      ne-eqb k 2 (c .match .rest .0 .0 .0 .0 .1),
+      ne-eqb k 3 (c .match .rest .0 .0 .0 .1),
+      ne-eqb k 4 (c .match .rest .0 .0 .1),
+      ne-eqb k 5 (c .match .rest .0 .1),
+      ne-eqb k 6 (c .match .rest .1),
+    )
+
+pub length-of-spec : {M : Type 1} → statement M
+length-of-spec =
+    tie.close (tie.spec returns returns-2 returns-3 returns-4 returns-5 returns-6 returns-7)

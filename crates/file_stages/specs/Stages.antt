@@ -1,0 +1,48 @@
+-- Document 01, "Files": which record kinds may come at each stage of reading, and the stage after them.
+-- Assumes nothing.
+use mathlib.Core.Bool.{Bool, true, false}
+use Prim.Native.Nat.{ℕ}
+use lib.Dec.{eqb}
+use Rattle.file_stages.specs.declared.Stage.{Stage}
+use Rattle.file_stages.specs.declared.Stage.the-variants.{Head, Elements, Links, End, PlanHead, Steps, PlanEnd, Over}
+use Rattle.file_stages.specs.declared.Next.{Next}
+use Rattle.file_stages.specs.declared.Next.the-variants.{Go, Refused}
+
+-- the stages in their order: the rows of the table
+abbrev pub stageNumber : Stage → ℕ
+stageNumber Head = 0
+stageNumber Elements = 1
+stageNumber Links = 2
+stageNumber End = 3
+stageNumber PlanHead = 4
+stageNumber Steps = 5
+stageNumber PlanEnd = 6
+stageNumber Over = 7
+
+-- a kind that may come goesTo to a stage; any other is refusal 2
+abbrev pub goesTo : Bool → Stage → Next
+goesTo true s = Go s
+goesTo false s = Refused
+
+-- "A network file is one head, E elements, K links, one end. A plan file is one plan head, its steps, one end."
+-- Kinds: 1 network head, 2 element, 3 link, 4 end, 5 plan head, 6 step.
+unfoldable pub nextStage : Stage → ℕ → Next
+nextStage Head k = goesTo (eqb k 1) Elements
+nextStage Elements k = goesTo (eqb k 2) Elements
+nextStage Links k = goesTo (eqb k 3) Links
+nextStage End k = goesTo (eqb k 4) PlanHead
+nextStage PlanHead k = goesTo (eqb k 5) Steps
+nextStage Steps k = goesTo (eqb k 6) Steps
+nextStage PlanEnd k = goesTo (eqb k 4) Over
+nextStage Over k = Refused
+
+-- the stage that follows once the last element, link or step is read
+abbrev pub afterLast : Stage → Stage
+afterLast Head = Head
+afterLast Elements = Links
+afterLast Links = End
+afterLast End = End
+afterLast PlanHead = PlanHead
+afterLast Steps = PlanEnd
+afterLast PlanEnd = PlanEnd
+afterLast Over = Over

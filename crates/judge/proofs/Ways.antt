@@ -1,0 +1,75 @@
+-- Each way through the judge's functions ends in the mark that the definition gives.
+-- Assumes nothing.
+use mathlib.Core.Path.{_≡_, sym, ap, _∙_, subst}
+use mathlib.Core.List.{List}
+use Prim.Native.Nat.{ℕ, _<_}
+use lib.ListN.{length, getD}
+use Rattle.network.specs.declared.refusal.Refusal.{Refusal}
+use Rattle.network.specs.declared.refusal.Answer.{Answer}
+use Rattle.network.specs.declared.refusal.Answer.the-variants.{Accepted, Refused}
+use Rattle.network.specs.Accepted.{WellFormed}
+use Rattle.file_both.specs.declared.BothRead.{BothRead}
+use Rattle.file_plan.specs.Accepted.{WellFormedPlan}
+use Rattle.file_both.specs.Inputs.{bothInput, bothRead}
+use Rattle.feeding.specs.Networks.{netOf}
+use Rattle.feeding.specs.Acceptance.{Starts, answerTo}
+use Rattle.feeding.proofs.Views.{accepted-starts}
+use Rattle.plan_form.specs.Printing.{stepsOf}
+use Rattle.judge_marks.specs.declared.Mark.{Mark}
+use Rattle.judge_marks.specs.declared.Mark.the-variants as Mark·
+use Rattle.judge_marks.specs.Marks.{markOf}
+use Rattle.texts.specs.Texts.{inFront, Counted}
+use Rattle.texts.proofs.Pieces.{front-counted}
+use Rattle.judge_line.specs.MarkLines.{markLine}
+use Rattle.judge.specs.Judging.{MarkKept, markAccepted, markRead, markOfRead, markFor}
+use Rattle.judge.proofs.Kept.{mark-kept}
+use Rattle.judge.proofs.Read.{both-formed}
+
+-- ---- what was read
+
+module _ (s : List ℕ) (bytes : (i : ℕ) → getD s i 0 < 256) (read : BothRead) (is : read ≡ bothRead (bothInput s)) where
+  -- the mark, and what it keeps
+  pub returned : (m : Mark) → m ≡ markFor s → (m ≡ markFor s) × MarkKept s m
+  returned m e = (e, subst (MarkKept s) (sym e) (mark-kept s bytes))
+
+  pub unread-mark : (f : Refusal) → read .answer ≡ Refused f → Mark·.Refused f ≡ markFor s
+  unfolding markFor markOfRead markRead
+  unread-mark f e = ap (markRead (read .net) (read .plan)) (sym e) ∙ ap markOfRead is
+
+  module _ (ok : read .answer ≡ Accepted) (a : Answer) (start : a ≡ answerTo (read .net)) where
+    accepted-mark : markAccepted (read .net) (read .plan) a ≡ markFor s
+    unfolding markFor markOfRead markRead
+    accepted-mark =
+        ap (markAccepted (read .net) (read .plan)) start ∙ ap (markRead (read .net) (read .plan)) (sym ok) ∙ ap markOfRead is
+
+    pub unaccepted-mark : (f : Refusal) → a ≡ Refused f → Mark·.Refused f ≡ markFor s
+    unfolding markAccepted
+    unaccepted-mark f e = ap (markAccepted (read .net) (read .plan)) (sym e) ∙ accepted-mark
+
+    pub plan-mark : a ≡ Accepted → (m : Mark) → m ≡ markOf (netOf (read .net)) (stepsOf (read .plan)) → m ≡ markFor s
+    unfolding markAccepted
+    plan-mark e m h = h ∙ ap (markAccepted (read .net) (read .plan)) (sym e) ∙ accepted-mark
+
+    pub read-starts : a ≡ Accepted → WellFormed (read .net) × Starts (netOf (read .net))
+    read-starts e =
+        let w = both-formed s bytes read is ok .net in
+        (w, accepted-starts (read .net) w (sym start ∙ e))
+
+    pub read-plan : WellFormedPlan (read .net .links) (read .plan)
+    read-plan = both-formed s bytes read is ok .plan
+
+  pub read-network : read .answer ≡ Accepted → WellFormed (read .net)
+  read-network ok = both-formed s bytes read is ok .net
+
+-- ---- the mark's line
+
+pub printed-mark : (s : List ℕ) (m : Mark) (buffer : List ℕ) {r : ℕ} {after : List ℕ} → (m ≡ markFor s) × MarkKept s m
+    → (r ≡ length (markLine m)) × (after ≡ inFront (markLine m) buffer)
+    → (r ≡ length (markLine (markFor s))) × ((after ≡ inFront (markLine (markFor s)) buffer) × (Counted r after × MarkKept s (markFor s)))
+printed-mark s m buffer h put = (
+  put .0 ∙ ap (λ (x : Mark). length (markLine x)) (h .0),
+  (
+    put .1 ∙ ap (λ (x : Mark). inFront (markLine x) buffer) (h .0),
+    (rw (put .0, put .1) (front-counted (markLine m) buffer), subst (MarkKept s) (h .0) (h .1)),
+  ),
+)

@@ -1,0 +1,138 @@
+-- Document 01, the judge's marks: BROKEN, SHORT and VALID for a list of steps. Operable set and cost are parameters; what computes takes the cheapest cost too.
+-- Assumes nothing.
+use mathlib.Core.Path.{_≡_}
+use mathlib.Core.Bool.{Bool, true, false, not, _&&_}
+use mathlib.Core.List.{List, [], _∷_, _++_}
+use Prim.Native.Nat.{ℕ, suc, _+_, _-_, _≤_, _<_}
+use lib.Dec.{ltb}
+use lib.ListN.{length}
+use Rattle.feeding.specs.Below.{Lowest, lowest}
+use Rattle.feeding.specs.Networks.{Net}
+use Rattle.feeding.specs.Parts.{Config, Live, live?}
+use Rattle.feeding.specs.Safety.{Safe, safe?}
+use Rattle.feeding.specs.Restoration.{Restorable, Operable, Restored, restorable?, operable?}
+use Rattle.feeding.specs.Plans.{Step, Good, Valid, put, run, differ, costOf, printedForm}
+use Rattle.plan_problem.specs.Choosing.{CostsLeastBy, Choice, nothing, chosen, planned}
+use Rattle.judge_marks.specs.declared.Reason.{Reason}
+use Rattle.judge_marks.specs.declared.Reason.the-variants.{NotOperable, AlreadySo, Unsafe}
+use Rattle.judge_marks.specs.declared.BadStep.{BadStep}
+use Rattle.judge_marks.specs.declared.Examined.{Examined}
+use Rattle.judge_marks.specs.declared.Examined.the-variants.{AllGood, Bad}
+use Rattle.judge_marks.specs.declared.Score.{Score}
+use Rattle.judge_marks.specs.declared.Mark.{Mark}
+use Rattle.judge_marks.specs.declared.Mark.the-variants as Mark·
+
+-- "1 not an operable switch, 2 already so, 3 unsafe afterwards"
+abbrev pub reasonNumber : Reason → ℕ
+reasonNumber NotOperable = 1
+reasonNumber AlreadySo = 2
+reasonNumber Unsafe = 3
+
+-- the reason fits the step s in the configuration c
+abbrev pub Fits : Net → (ℕ → Type 0) → Config → Step → Reason → Type 0
+Fits net op c s NotOperable = ¬ op (s .link)
+Fits net op c s AlreadySo = c (s .link) ≡ s .want
+Fits net op c s Unsafe = ¬ Safe (net .grid) (put c (s .link) (s .want))
+
+-- "the lowest reason that fits"
+pub record LowestReason (net : Net) (op : ℕ → Type 0) (c : Config) (s : Step) (r : Reason) : Type 0 where
+  pub fits : Fits net op c s r
+  pub lowest : (r′ : Reason) → Fits net op c s r′ → reasonNumber r ≤ reasonNumber r′
+
+-- "BROKEN step reason for the first bad step": those before it are good, and steps are numbered from 1
+pub record BrokenBy (net : Net) (op : ℕ → Type 0) (q : List Step) (b : BadStep) : Type 0 where
+  pub front : List Step
+  pub bad : Step
+  pub rest : List Step
+  pub whole : q ≡ front ++ (bad ∷ rest)
+  pub number : b .step ≡ length front + 1
+  pub good : Good net op (net .startClosed) front
+  pub reason : LowestReason net op (run (net .startClosed) front) bad (b .reason)
+
+-- a restorable element that is dark
+pub record StillDark (net : Net) (c : Config) (e : ℕ) : Type 0 where
+  pub restorable : Restorable net e
+  pub dark : ¬ Live (net .grid) c e
+
+-- "SHORT element: all steps good, the lowest restorable element still dark"
+pub record ShortBy (net : Net) (op : ℕ → Type 0) (q : List Step) (e : ℕ) : Type 0 where
+  pub good : Good net op (net .startClosed) q
+  pub below : e < net .grid .E
+  pub lowest : Lowest (net .grid .E) (StillDark net (run (net .startClosed) q)) e
+
+-- "VALID cost excess: its cost, and its cost minus the cheapest"
+pub record ValidBy (net : Net) (op : ℕ → Type 0) (price : List Step → ℕ) (q : List Step) (v : Score) : Type 0 where
+  pub valid : Valid net op (Restored net) q
+  pub own : v .cost ≡ price q
+  pub cheapest : ℕ
+  pub least : CostsLeastBy net op (Restored net) price cheapest
+  pub above : v .cost ≡ cheapest + v .excess
+
+-- what a list of steps is marked; the refusals of an input are in the specs of `judge`
+pub data MarkedBy (net : Net) (op : ℕ → Type 0) (price : List Step → ℕ) (q : List Step) : Mark → Type 0 where
+  broken : {b : BadStep} → BrokenBy net op q b → MarkedBy net op price q (Mark·.Broken b)
+  short : {e : ℕ} → ShortBy net op q e → MarkedBy net op price q (Mark·.Short e)
+  valid : {v : Score} → ValidBy net op price q v → MarkedBy net op price q (Mark·.Valid v)
+
+-- ---- document 01: its operable switches, and the sum of the steps' costs
+
+abbrev pub Marked : Net → List Step → Mark → Type 0
+Marked net q m = MarkedBy net (Operable net) (costOf net) q m
+
+-- ---- what computes, for any operable test, cost and cheapest cost
+
+-- step number i, by three tests: whether it operates an operable switch, whether it changes the state, whether what it reaches is safe
+unfoldable pub examined : ℕ → Bool → Bool → Bool → Examined
+examined i false changes safe = Bad (record { step = i; reason = NotOperable })
+examined i true false safe = Bad (record { step = i; reason = AlreadySo })
+examined i true true false = Bad (record { step = i; reason = Unsafe })
+examined i true true true = AllGood
+
+-- the first that is bad
+unfoldable pub firstBad : Examined → Examined → Examined
+firstBad AllGood rest = rest
+firstBad (Bad b) rest = Bad b
+
+-- one step in the configuration c
+unfoldable pub stepExamined : Net → (ℕ → Bool) → Config → ℕ → Step → Examined
+stepExamined net op c i s = examined i (op (s .link)) (differ (c (s .link)) (s .want)) (safe? (net .grid) (put c (s .link) (s .want)))
+
+-- the steps from number i on, which stands in the configuration c
+unfoldable pub stepsExamined : Net → (ℕ → Bool) → Config → ℕ → List Step → Examined
+stepsExamined net op c i [] = AllGood
+stepsExamined net op c i (s ∷ q) = firstBad (stepExamined net op c i s) (stepsExamined net op (put c (s .link) (s .want)) (suc i) q)
+
+-- the lowest restorable element that is dark; E where there is none
+unfoldable pub darkPlace : Net → Config → ℕ
+darkPlace net c = lowest (net .grid .E) (λ e. restorable? net e && not (live? (net .grid) c e))
+
+-- VALID with the cost of the steps, and what of it is above the cheapest cost
+unfoldable pub scoredBy : (List Step → ℕ) → ℕ → List Step → Mark
+scoredBy price cheapest q = Mark·.Valid (record { cost = price q; excess = price q - cheapest })
+
+-- where all steps are good, by the lowest element still dark; `score` where none is
+unfoldable pub markAt : Net → Mark → ℕ → Mark
+markAt net score dark = elim (ltb dark (net .grid .E)) [ true ↦ Mark·.Short dark | false ↦ score ]
+
+unfoldable pub markAfter : Net → Mark → List Step → Examined → Mark
+markAfter net score q AllGood = markAt net score (darkPlace net (run (net .startClosed) q))
+markAfter net score q (Bad b) = Mark·.Broken b
+
+unfoldable pub markBy : Net → (ℕ → Bool) → (List Step → ℕ) → ℕ → List Step → Mark
+markBy net op price cheapest q = markAfter net (scoredBy price cheapest q) q (stepsExamined net op (net .startClosed) 1 q)
+
+-- ---- document 01
+
+-- the cost of the cheapest valid plan; 0 where there is none, and then no list of steps comes so far
+unfoldable pub costIn : Net → Choice → ℕ
+costIn net nothing = 0
+costIn net (chosen D) = costOf net (printedForm net D)
+
+unfoldable pub cheapestCost : Net → ℕ
+cheapestCost net = costIn net (planned net)
+
+abbrev pub scored : Net → List Step → Mark
+scored net q = scoredBy (costOf net) (cheapestCost net) q
+
+unfoldable pub markOf : Net → List Step → Mark
+markOf net q = markBy net (operable? net) (costOf net) (cheapestCost net) q

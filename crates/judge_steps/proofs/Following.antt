@@ -1,0 +1,103 @@
+-- The turns of the other loops: the states that the steps left make, the cost that they add, and the lowest element that is still dark.
+-- Assumes nothing.
+use mathlib.Core.Path.{_≡_, refl, sym, ap, ap₂, _∙_}
+use mathlib.Core.Bool.{Bool, false, not, _&&_}
+use mathlib.Core.List.{List, [], _∷_}
+use Prim.Native.Nat.{ℕ, _+_, _*_, _≤_, _<_}
+use native.Mathlib.Omega.{arith}
+use lib.ListN.{length, set, getD, length-set}
+use Rattle.network.specs.declared.Network.{Network}
+use Rattle.network.specs.Accepted.{WellFormed}
+use Rattle.file_plan.specs.declared.plan.Plan.{Plan}
+use Rattle.file_writer.specs.Writing.{stateNumber}
+use Rattle.feeding.specs.Below.{bits, lowest}
+use Rattle.feeding.specs.Networks.{netOf, gridOf, at, isIn}
+use Rattle.feeding.specs.Parts.{closedIn, label, joined?, sound?, live?}
+use Rattle.feeding.specs.Plans.{Step, costOf}
+use Rattle.feeding.specs.Restoration.{restorable?}
+use Rattle.feeding.proofs.Lows.{lowest-ext}
+use Rattle.feeding_sets.specs.Sets.{butNot}
+use Rattle.feeding_restoration.specs.Living.{liveIn}
+use Rattle.feeding_restoration.proofs.Sets.{set-at, fits}
+use Rattle.plan_form.specs.Printing.{stepsOf}
+use Rattle.judge_marks.specs.Marks.{darkPlace}
+use Rattle.judge_steps.specs.States.{statesRun}
+use Rattle.judge_steps.proofs.Front.{stepsLeft, all-left, one-taken, none-left}
+
+-- ---- states
+
+-- what is left makes of these states what all steps make of those at the start
+pub record Running (p : Plan) (start closed : List ℕ) (i : ℕ) : Type 0 where
+  pub at-most : i ≤ p .steps
+  pub long : length closed ≡ 96
+  pub rest : statesRun closed (stepsLeft p i) ≡ statesRun start (stepsOf p)
+
+module _ (p : Plan) (start : List ℕ) where
+  pub run-first : length start ≡ 96 → Running p start start 0
+  run-first h = record { at-most = omega arith; long = h; rest = ap (statesRun start) (all-left p) }
+
+  pub run-turn : (closed : List ℕ) (i : ℕ) → Running p start closed i → i < p .steps → (want : ℕ) → want ≡ stateNumber (getD (p .close) i false)
+      → (closed′ : List ℕ) → closed′ ≡ set closed (at (p .link) i) want → (j : ℕ) → j ≡ i + 1 → Running p start closed′ j
+  unfolding statesRun
+  run-turn closed i now k want want-is closed′ closed-is j next =
+      record {
+        at-most = omega arith;
+        long = ap length closed-is ∙ length-set closed (at (p .link) i) want ∙ now .long;
+        rest =
+            ap₂ (λ (xs : List ℕ) (x : ℕ). statesRun xs (stepsLeft p x)) (closed-is ∙ ap (set closed (at (p .link) i)) want-is) next
+            ∙ ap (statesRun closed) (sym (one-taken p i k)) ∙ now .rest;
+      }
+
+  pub run-last : (closed : List ℕ) (i : ℕ) → Running p start closed i → p .steps ≤ i → closed ≡ statesRun start (stepsOf p)
+  unfolding statesRun
+  run-last closed i now k = sym (ap (statesRun closed) (none-left p i k)) ∙ now .rest
+
+-- ---- cost
+
+-- by a list of costs
+unfoldable pub costBy : List ℕ → List Step → ℕ
+costBy cost [] = 0
+costBy cost (s ∷ q) = at cost (s .link) + costBy cost q
+
+cost-by : (n : Network) (q : List Step) → costBy (n .cost) q ≡ costOf (netOf n) q
+unfolding costBy costOf netOf
+cost-by n [] = refl
+cost-by n (s ∷ q) = ap (λ (x : ℕ). at (n .cost) (s .link) + x) (cost-by n q)
+
+-- the sum so far, and what the steps left cost
+pub record Paid (p : Plan) (cost : List ℕ) (sum i : ℕ) : Type 0 where
+  pub at-most : i ≤ p .steps
+  pub small : sum ≤ 65536 * i
+  pub rest : sum + costBy cost (stepsLeft p i) ≡ costBy cost (stepsOf p)
+
+module _ (p : Plan) (cost : List ℕ) where
+  pub paid-first : (sum : ℕ) → sum ≡ 0 → Paid p cost sum 0
+  paid-first sum e = record { at-most = omega arith; small = omega arith; rest = omega (arith, ap (costBy cost) (all-left p)) }
+
+  pub paid-turn : (sum i : ℕ) → Paid p cost sum i → i < p .steps → at cost (at (p .link) i) < 65536
+      → (sum′ : ℕ) → sum′ ≡ sum + at cost (at (p .link) i) → (j : ℕ) → j ≡ i + 1 → Paid p cost sum′ j
+  unfolding costBy
+  paid-turn sum i now k below sum′ more j next =
+      let step : costBy cost (stepsLeft p i) ≡ at cost (at (p .link) i) + costBy cost (stepsLeft p (i + 1)) = ap (costBy cost) (one-taken p i k) in
+      rw next (record { at-most = omega arith; small = omega arith; rest = omega arith })
+
+  pub paid-last : (n : Network) → cost ≡ n .cost → (sum i : ℕ) → Paid p cost sum i → p .steps ≤ i → sum ≡ costOf (netOf n) (stepsOf p)
+  unfolding costBy
+  paid-last n e sum i now k =
+      let none : costBy cost (stepsLeft p i) ≡ 0 = ap (costBy cost) (none-left p i k) in
+      let all : costBy cost (stepsOf p) ≡ costOf (netOf n) (stepsOf p) = ap (λ (xs : List ℕ). costBy xs (stepsOf p)) e ∙ cost-by n (stepsOf p) in
+      omega (arith, now .rest)
+
+-- ---- what is still dark
+
+pub dark-found : (n : Network) → WellFormed n → (closed live restorable waiting : List ℕ)
+    → live ≡ bits 96 (n .elements) (liveIn (n .elements) (n .links) (n .flags) (n .from) (n .to) closed)
+    → restorable ≡ bits 96 (n .elements) (restorable? (netOf n))
+    → waiting ≡ bits 96 (n .elements) (butNot restorable live)
+    → lowest (n .elements) (isIn waiting) ≡ darkPlace (netOf n) (closedIn closed)
+unfolding darkPlace netOf gridOf butNot liveIn live? sound? joined? label
+dark-found n w closed live restorable waiting live-is restorable-is waiting-is =
+    lowest-ext (n .elements) _ _ (λ e k.
+    set-at n w (n .elements) _ waiting (fits n w) waiting-is e k
+    ∙ ap₂ (λ (a b : Bool). a && not b) (set-at n w (n .elements) _ restorable (fits n w) restorable-is e k)
+    (set-at n w (n .elements) _ live (fits n w) live-is e k))

@@ -1,0 +1,93 @@
+// A submitted plan carried out: the states that it leads to, its cost, and what is still dark then.
+use network::Network;
+use file_plan::plan::Plan;
+use feeding_restoration::live_elements;
+use feeding_restoration::restorable_elements;
+use feeding_sets::except;
+ghost use mathlib.Core.Path.{_≡_};
+ghost use Prim.Native.Nat.{_≤_};
+ghost use lib.ListN.{length};
+ghost use Rattle.network.specs.Accepted.{WellFormed};
+ghost use Rattle.file_plan.specs.Accepted.{WellFormedPlan};
+ghost use Rattle.file_writer.specs.Writing.{stateNumber};
+ghost use Rattle.feeding.specs.Below.{lowest};
+ghost use Rattle.feeding.specs.Networks.{netOf, isIn};
+ghost use Rattle.feeding.specs.Parts.{closedIn};
+ghost use Rattle.feeding.specs.Plans.{costOf};
+ghost use Rattle.plan_form.specs.Printing.{stepsOf};
+ghost use Rattle.judge_marks.specs.Marks.{darkPlace};
+ghost use Rattle.judge_steps.specs.States.{statesRun};
+
+// 1 for closed.
+pub fn state_of(close: bool) -> u8
+    ensures { λ r. ⌜ r ≡ stateNumber close ⌝ }
+{
+    if close {
+        return 1;
+    }
+    0
+}
+
+// The states that the steps lead to; closed[l] is 1 for a closed link.
+pub fn states_after(start: [u8; 96], plan: Plan) -> [u8; 96]
+    requires { ⌜ WellFormedPlan 96 plan ⌝ }
+    ensures { λ r. ⌜ r ≡ statesRun start (stepsOf plan) ⌝ }
+{
+    let mut closed = start;
+    let count = plan.steps as usize;
+    let mut i: usize = 0;
+    while i < count {
+        let link = plan.link[i] as usize;
+        closed[link] = state_of(plan.close[i]);
+        i += 1;
+    }
+    closed
+}
+
+// The sum of the steps' costs.
+pub fn plan_cost(net: Network, plan: Plan) -> u64
+    requires { ⌜ WellFormed net ⌝ }
+    requires { ⌜ WellFormedPlan (net .links) plan ⌝ }
+    ensures { λ r. ⌜ r ≡ costOf (netOf net) (stepsOf plan) ⌝ }
+{
+    let cost = net.cost;
+    let mut sum: u64 = 0;
+    let count = plan.steps as usize;
+    let mut i: usize = 0;
+    while i < count {
+        let link = plan.link[i] as usize;
+        sum = sum + cost[link] as u64;
+        i += 1;
+    }
+    sum
+}
+
+// The lowest of the first numbers that is in the set; their count where none is.
+fn lowest_member(has: &[u8], count: usize) -> usize
+    requires { ⌜ count ≤ length (now has) ⌝ }
+    ensures { λ r. ⌜ r ≡ lowest count (isIn (now (has .entry))) ⌝ }
+{
+    let mut x: usize = 0;
+    while x < count {
+        if has[x] == 1 {
+            return x;
+        }
+        x += 1;
+    }
+    count
+}
+
+// The lowest restorable element that is dark in a configuration, or the count of elements.
+pub fn lowest_dark(net: Network, closed: &[u8]) -> usize
+    requires { ⌜ WellFormed net ⌝ }
+    requires { ⌜ length (now closed) ≡ 96 ⌝ }
+    ensures { λ r. ⌜ r ≡ darkPlace (netOf net) (closedIn (now (closed .entry))) ⌝ }
+{
+    let flags = net.flags;
+    let from = net.from;
+    let to = net.to;
+    let live = live_elements(&flags, &from, &to, closed, net.elements, net.links);
+    let restorable = restorable_elements(net);
+    let waiting = except(&restorable, &live, net.elements);
+    lowest_member(&waiting, net.elements)
+}

@@ -1,5 +1,0 @@
-pub mod Grids
-pub mod Lasts
-pub mod Loops
-pub mod Roots
-pub mod Turns

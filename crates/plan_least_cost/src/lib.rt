@@ -1,0 +1,42 @@
+// What the cheapest valid plan costs: the planner's contract for the judge.
+use feeding_acceptance::read_accepted;
+use plan_cheapest::cheapest_set;
+use network::Network;
+use network::refusal::Answer;
+use network::refusal::Refusal;
+use plan_problem::Best;
+ghost use Rattle.network.specs.Accepted.{WellFormed};
+ghost use Rattle.feeding.specs.Networks.{netOf};
+ghost use Rattle.feeding.specs.Acceptance.{Starts};
+ghost use Rattle.plan_least_cost.specs.LeastCost.{CheapestIn, CheapestFor};
+
+pub enum Cheapest {
+    Cost(u64),
+    NoPlan,
+    Refused(Refusal),
+}
+
+// What the cheapest valid plan of an accepted network costs.
+pub fn cheapest_cost(net: Network) -> Cheapest
+    requires { ⌜ WellFormed net ⌝ }
+    requires { ⌜ Starts (netOf net) ⌝ }
+    ensures { λ r. ⌜ CheapestIn (netOf net) r ⌝ }
+{
+    let best = cheapest_set(net);
+    if best.cost < Best::NO_SET {
+        return Cheapest::Cost(best.cost);
+    }
+    Cheapest::NoPlan
+}
+
+// What the cheapest valid plan of the network in a file costs.
+pub fn cheapest_in(s: &[u8]) -> Cheapest
+    ensures { λ r. ⌜ CheapestFor (now (s .entry)) r ⌝ }
+{
+    let read = read_accepted(s);
+    let verdict = read.answer;
+    match verdict {
+        Answer::Accepted => cheapest_cost(read.net),
+        Answer::Refused(refusal) => Cheapest::Refused(refusal),
+    }
+}

@@ -1,0 +1,4 @@
+pub mod Hanging
+pub mod Layer
+pub mod Spur
+pub mod OneMore

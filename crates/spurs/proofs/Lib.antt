@@ -1,4 +1,0 @@
-pub mod Hanging
-pub mod Layer
-pub mod Spur
-pub mod Turns

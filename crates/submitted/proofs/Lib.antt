@@ -1,3 +1,0 @@
-pub mod Front
-pub mod Configurations
-pub mod Turns

@@ -1,0 +1,48 @@
+-- `case_files::file_of` is safe and ends: the loop counts up to the length of the text.
+-- Assumes nothing.
+use Prim.Native.Nat.{_-_}
+use lib.ListN.{length}
+use native.Mathlib.Omega.{arith}
+use Rattle.test_files.proofs.file_of.Statement.{statement}
+use Rattle.test_files.proofs.file_of.Tie as tie
+
+abbrev Inv-loop : tie.InvT-loop
+Inv-loop signs file₀ i₀ file i = Unit {0}
+
+abbrev μ-loop : tie.MeasureT-loop
+μ-loop signs file₀ i₀ file i = length signs - i
+
+loop-holds : tie.Need-loop-holds Inv-loop μ-loop
+loop-holds c = tt
+
+shared-slice-read-with-sign : tie.Need-shared-slice-read-with-sign Inv-loop μ-loop
+shared-slice-read-with-sign c = omega arith
+
+with-sign-requires : tie.Need-with-sign-requires Inv-loop μ-loop
+with-sign-requires c κs = tt
+
+add-i : tie.Need-add-i Inv-loop μ-loop
+add-i c = omega arith
+
+loop-less : tie.Need-loop-less Inv-loop μ-loop
+loop-less c = omega arith
+
+loop-again : tie.Need-loop-again Inv-loop μ-loop
+loop-again c = tt
+
+returns : tie.Need-returns Inv-loop μ-loop
+returns c = tt
+
+pub file-of-spec : {M : Type 1} → statement M
+file-of-spec =
+    tie.close
+    (tie.spec
+    Inv-loop
+    μ-loop
+    loop-holds
+    shared-slice-read-with-sign
+    with-sign-requires
+    add-i
+    loop-less
+    loop-again
+    returns)
