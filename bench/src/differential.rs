@@ -28,7 +28,7 @@ pub fn run(seed: u64, count: usize) -> Result<(), String> {
     print!("{counts}");
     compare_all(&mut r, seed, count / 10, hard_input, &mut Counts::default())?;
     println!("{count} inputs and {} hard networks, seed {seed}: 0 differences", count / 10);
-    let missing = counts.missing();
+    let missing = counts.fewer_than(1);
     if count >= ENOUGH && !missing.is_empty() {
         return Err(format!("never occurred: {}", missing.join(", ")));
     }
@@ -72,7 +72,8 @@ fn compare(input: &[u8], room: usize, counts: &mut Counts) -> Result<(), Differe
         same_reply(input, &reply, room)?;
     }
     same("the mark", library::mark(input), mark_values(independent::mark(input)))?;
-    counts.add(&plan_text, &mark_text);
+    counts.add_reply(&plan_text);
+    counts.add_mark(&mark_text);
     Ok(())
 }
 

@@ -4,20 +4,37 @@ use crate::draft::{plan_file, Draft};
 use crate::networks::{self, Kind};
 use crate::plans;
 use crate::random::Random;
+use crate::regions;
 
 pub const LONGEST: usize = 9000;
+
+/// A network of any shape.
+pub fn network(r: &mut Random) -> Draft {
+    if r.one_in(4) {
+        return regions::network(r);
+    }
+    networks::network(r)
+}
+
+/// A small network of any shape that can be small.
+pub fn brief(r: &mut Random) -> Draft {
+    if r.one_in(4) {
+        return regions::brief(r);
+    }
+    networks::brief(r)
+}
 
 /// Networks, networks with a plan behind, and damaged ones.
 pub fn input(r: &mut Random) -> Vec<u8> {
     match r.below(1000) {
-        0..380 => networks::network(r).file(),
-        380..700 => with_plan(r, networks::network),
+        0..380 => network(r).file(),
+        380..700 => with_plan(r, network),
         700..960 => {
-            let file = either(r, networks::brief);
+            let file = either(r, brief);
             damaged(r, file)
         }
         960..980 => {
-            let file = either(r, networks::network);
+            let file = either(r, network);
             damaged(r, file)
         }
         980..985 => random_bytes(r, 60),
@@ -30,15 +47,15 @@ pub fn input(r: &mut Random) -> Vec<u8> {
 /// The same mix from small networks, so that a thousand inputs stay small.
 pub fn brief_input(r: &mut Random) -> Vec<u8> {
     match r.below(1000) {
-        0..200 => networks::brief(r).file(),
-        200..480 => with_plan(r, networks::brief),
+        0..200 => brief(r).file(),
+        200..480 => with_plan(r, brief),
         480..900 => {
-            let file = either(r, networks::brief);
+            let file = either(r, brief);
             damaged(r, file)
         }
         900..912 => random_bytes(r, 60),
-        912..960 => with_plan(r, networks::network),
-        960..996 => networks::network(r).file(),
+        912..960 => with_plan(r, network),
+        960..996 => network(r).file(),
         996 => large(r),
         997 => long(r),
         _ => vec![],
@@ -75,7 +92,7 @@ fn large(r: &mut Random) -> Vec<u8> {
 
 /// A file with thousands of bytes behind it.
 fn long(r: &mut Random) -> Vec<u8> {
-    let mut file = either(r, networks::network);
+    let mut file = either(r, network);
     let length = r.from(file.len() + 1, LONGEST);
     let filler = file.clone();
     while file.len() < length {

@@ -25,7 +25,8 @@ pub fn brief(r: &mut Random) -> Draft {
         0..15 => scattered_of(r, 5),
         15..20 => tiny(r),
         20..54 => grown_brief(r),
-        54..74 => split(r),
+        54..71 => split(r),
+        71..74 => tied(r),
         74..82 => parallel(r),
         82..91 => overloaded(r),
         91..96 => star_of(r, 3),
@@ -204,6 +205,21 @@ fn split(r: &mut Random) -> Draft {
         let (form, cost) = (r.pick(&[CLOSED, CLOSED, CLOSED, OPEN]), cost(r, most));
         draft.add_link((e - 1, e), form, cost);
     }
+    draft.renumbered(r)
+}
+
+/// Two dark elements that one source can feed by one step, or two others by three steps of the same cost.
+fn tied(r: &mut Random) -> Draft {
+    let mut draft = Draft::default();
+    let most = r.pick(&[1, 3, 9]);
+    for (load, capacity, flags) in [(1, 2, 0), (1, 2, 0), (0, 1, 1), (0, 1, 1), (0, 2, 1)] {
+        draft.add_element(load, capacity, flags);
+    }
+    for (ends, form) in [((0, 1), CLOSED), ((0, 2), OPEN), ((1, 3), OPEN)] {
+        draft.add_link(ends, form, cost(r, most));
+    }
+    let three: u16 = draft.links.iter().map(|link| link.cost).sum();
+    draft.add_link((r.below(2), 4), OPEN, three);
     draft.renumbered(r)
 }
 

@@ -116,13 +116,14 @@ pub fn full(r: &mut Random, mut steps: Vec<Step>) -> Vec<Step> {
     steps
 }
 
-/// An operable switch there and back before the plan.
+/// An operable switch there and back, somewhere in the plan.
 fn detour(r: &mut Random, accepted: &Accepted, steps: &mut Vec<Step>) {
     let operable: Vec<usize> = independent::bits(accepted.start.operable).collect();
     if !operable.is_empty() {
-        let link = r.pick(&operable);
-        let state = (accepted.network.closed >> link & 1) as u16;
-        steps.splice(0..0, [(link, state ^ 1), (link, state)]);
+        let (link, at) = (r.pick(&operable), r.below(steps.len() + 1));
+        let at_start = (accepted.network.closed >> link & 1) as u16;
+        let state = steps[..at].iter().rev().find(|step| step.0 == link).map_or(at_start, |step| step.1);
+        steps.splice(at..at, [(link, state ^ 1), (link, state)]);
     }
 }
 

@@ -2,9 +2,8 @@
 -- Assumes nothing.
 use mathlib.Core.Path.{_≡_, refl, sym, ap, _∙_, subst}
 use mathlib.Core.List.{List}
-use Prim.Native.Nat.{ℕ, _<_}
+use Prim.Native.Nat.{ℕ}
 use native.Mathlib.Omega.{arith}
-use lib.ListN.{getD}
 use Rattle.network.specs.declared.Network.{Network}
 use Rattle.network.specs.declared.refusal.Refusal.{Refusal}
 use Rattle.network.specs.Networks.{emptyNetwork}
@@ -15,10 +14,12 @@ use Rattle.network.specs.Accepted.{WellFormed}
 use Rattle.file_network.specs.Inputs.{networkInput, networkRead}
 use Rattle.file_network.specs.Runs as Runs
 use Rattle.file_network.specs.Runs.{Reading}
+use Rattle.file_refusals.specs.Stated.{NetworkOf}
+use Rattle.file_refusals.proofs.Reading.{network-unread, network-handed-out, network-read}
 use Rattle.feeding.specs.Networks.{netOf}
 use Rattle.feeding.specs.Acceptance.{Answered, Starts, answerTo}
 use Rattle.feeding.proofs.Views.{network-answered, answered-network, accepted-starts}
-use Rattle.feeding_acceptance.specs.Reading.{handedOut, acceptedFrom, acceptedRead, Admission, unread, refused, accepted}
+use Rattle.feeding_acceptance.specs.Reading.{handedOut, acceptedFrom, acceptedRead, Bytes, AcceptedNetwork, FirstRule, in-bytes, in-network, Admission, refused, accepted}
 use Rattle.feeding_acceptance.proofs.Reading.{read-well-formed}
 
 empty-read : (o : Reading Network) (r : Refusal) → networkRead o .answer ≡ Refused r → networkRead o .net ≡ emptyNetwork
@@ -26,32 +27,44 @@ unfolding networkRead
 empty-read (Runs.refused q) r e = refl
 empty-read (Runs.reached at stage n) r e = let z : _≡_ {A = ℕ} 0 1 = cc in absurd (omega arith)
 
--- whatever is judged of s is what `read_accepted` answers, so bytes have one judgement
-pub admission-only : (s : List ℕ) (r : NetworkRead) → Admission s r → r ≡ acceptedRead (networkRead (networkInput s))
-unfolding acceptedRead acceptedFrom handedOut
-admission-only s _ (unread {r = f} e) =
-    ap (λ (n : Network). record { answer = Refused f; net = n }) (sym (empty-read (networkInput s) f e))
-    ∙ ap (acceptedFrom (networkRead (networkInput s) .net)) (sym e)
-admission-only s _ (refused {r = f} n e w h) = ap (handedOut n) (answered-network n w (Refused f) h) ∙ ap acceptedRead (sym e)
-admission-only s _ (accepted n e w h) = ap (handedOut n) (answered-network n w Accepted h) ∙ ap acceptedRead (sym e)
+-- what a refusal holds
+refusalOr : Refusal → Answer → Refusal
+refusalOr f Accepted = f
+refusalOr f (Refused r) = r
 
-module _ (s : List ℕ) (bytes : (i : ℕ) → getD s i 0 < 256) where
+pub same-refusal : {f g : Refusal} → Refused f ≡ Refused g → f ≡ g
+unfolding refusalOr
+same-refusal {f} e = ap (refusalOr f) e
+
+module _ (s : List ℕ) (bytes : Bytes s) where
+  -- a file that states a network states a well-formed one
+  pub file-formed : (n : Network) → NetworkOf s n → WellFormed n
+  file-formed n file = read-well-formed s bytes _ (sym (network-read s n .1 file)) refl
+
+  -- whatever is admitted of s is what `read_accepted` answers, so bytes have one admission
+  pub admission-only : (r : NetworkRead) → Admission s r → r ≡ acceptedRead (networkRead (networkInput s))
+  unfolding acceptedRead acceptedFrom handedOut
+  admission-only _ (refused {f = f} (in-bytes b)) = ap acceptedRead (sym (network-handed-out s f .1 b))
+  admission-only _ (refused {f = f} (in-network n file h)) =
+      ap (handedOut n) (answered-network n (file-formed n file) (Refused f) h) ∙ ap acceptedRead (sym (network-read s n .1 file))
+  admission-only _ (accepted n a) =
+      ap (handedOut n) (answered-network n (file-formed n (a .file)) Accepted (a .kept)) ∙ ap acceptedRead (sym (network-read s n .1 (a .file)))
+
   -- a network that was read and found well formed
-  admission-network : (n : Network) → networkRead (networkInput s) ≡ record { answer = Accepted; net = n } → WellFormed n
-      → (a : Answer) → Answered (netOf n) a → Admission s (handedOut n a)
+  admission-network : (n : Network) → NetworkOf s n → (a : Answer) → Answered (netOf n) a → Admission s (handedOut n a)
   unfolding handedOut
-  admission-network n e w Accepted h = accepted n e w h
-  admission-network n e w (Refused r) h = refused n e w h
+  admission-network n file Accepted h = accepted n (record { file = file; kept = h })
+  admission-network n file (Refused r) h = refused (in-network n file h)
 
   admission-read : (read : NetworkRead) → networkRead (networkInput s) ≡ read → (a : Answer) → read .answer ≡ a → Admission s (acceptedFrom (read .net) a)
   unfolding acceptedFrom
   admission-read read e Accepted h =
-      admission-network (read .net) (e ∙ ap (λ (a : Answer). record { answer = a; net = read .net }) h) (read-well-formed s bytes read (sym e) h)
-      (answerTo (read .net)) (network-answered (read .net) (read-well-formed s bytes read (sym e) h))
+      let file : NetworkOf s (read .net) = network-read s (read .net) .0 (e ∙ ap (λ (a : Answer). record { answer = a; net = read .net }) h) in
+      admission-network (read .net) file (answerTo (read .net)) (network-answered (read .net) (file-formed (read .net) file))
   admission-read read e (Refused r) h =
       subst (λ (n : Network). Admission s (record { answer = Refused r; net = n }))
       (sym (ap (λ (x : NetworkRead). x .net) (sym e) ∙ empty-read (networkInput s) r (ap (λ (x : NetworkRead). x .answer) e ∙ h)))
-      (unread (ap (λ (x : NetworkRead). x .answer) e ∙ h))
+      (refused (in-bytes (network-unread s r .0 (ap (λ (x : NetworkRead). x .answer) e ∙ h))))
 
   -- the theorem, for what `read_accepted` answers
   pub input-admission : Admission s (acceptedRead (networkRead (networkInput s)))
@@ -59,16 +72,37 @@ module _ (s : List ℕ) (bytes : (i : ℕ) → getD s i 0 < 256) where
   input-admission = admission-read (networkRead (networkInput s)) refl (networkRead (networkInput s) .answer) refl
 
   -- an accepted input: a well-formed network that starts safe, with at most 12 operable switches
-  pub input-starts : (r : NetworkRead) → Admission s r → r .answer ≡ Accepted → WellFormed (r .net) × Starts (netOf (r .net))
-  input-starts _ (unread _) e = let z : _≡_ {A = ℕ} 0 1 = cc in absurd (omega arith)
-  input-starts _ (refused _ _ _ _) e = let z : _≡_ {A = ℕ} 0 1 = cc in absurd (omega arith)
-  input-starts _ (accepted n _ w h) e = (w, accepted-starts n w (sym (answered-network n w Accepted h)))
+  pub network-starts : (n : Network) → AcceptedNetwork s n → WellFormed n × Starts (netOf n)
+  network-starts n a =
+      let formed = file-formed n (a .file) in
+      (formed, accepted-starts n formed (sym (answered-network n formed Accepted (a .kept))))
+
+  -- bytes have one accepted network, or one first rule that they break
+  pub network-once : (n m : Network) → AcceptedNetwork s n → AcceptedNetwork s m → n ≡ m
+  network-once n m a b = ap (λ (r : NetworkRead). r .net) (admission-only _ (accepted n a) ∙ sym (admission-only _ (accepted m b)))
+
+  pub first-rule-once : (f g : Refusal) → FirstRule s f → FirstRule s g → f ≡ g
+  first-rule-once f g a b = same-refusal (ap (λ (r : NetworkRead). r .answer) (admission-only _ (refused a) ∙ sym (admission-only _ (refused b))))
+
+  pub accepted-unrefused : (n : Network) (f : Refusal) → AcceptedNetwork s n → ¬ FirstRule s f
+  accepted-unrefused n f a r =
+      let same : Accepted ≡ Refused f = ap (λ (x : NetworkRead). x .answer) (admission-only _ (accepted n a) ∙ sym (admission-only _ (refused r))) in
+      let z : _≡_ {A = ℕ} 0 1 = cc in
+      absurd (omega arith)
 
   -- what was read, for the code that calls `read_accepted`
   module _ (read : NetworkRead) (is : read ≡ acceptedRead (networkRead (networkInput s))) where
     pub read-admission : Admission s read
     read-admission = subst (Admission s) (sym is) input-admission
 
+    -- both clauses of `read_accepted`
+    pub read-admitted : (read ≡ acceptedRead (networkRead (networkInput s))) × Admission s read
+    read-admitted = (is, read-admission)
+
     -- an accepted file's network is well formed and starts safe
     pub read-starts : read .answer ≡ Accepted → WellFormed (read .net) × Starts (netOf (read .net))
-    read-starts e = input-starts read read-admission e
+    read-starts e = go read read-admission e
+      where
+        go : (r : NetworkRead) → Admission s r → r .answer ≡ Accepted → WellFormed (r .net) × Starts (netOf (r .net))
+        go _ (refused _) e = let z : _≡_ {A = ℕ} 0 1 = cc in absurd (omega arith)
+        go _ (accepted n a) e = network-starts n a

@@ -1,18 +1,41 @@
--- Rules 1 to 18 on the planner's input: what is read, and what is handed out with the answer.
+-- Document 01, rules 1 to 18 on the planner's input: which network it states, or which rule it breaks first; and what is handed out with the answer.
 -- Assumes nothing.
-use mathlib.Core.Path.{_≡_}
 use mathlib.Core.List.{List}
-use Prim.Native.Nat.{ℕ}
+use Prim.Native.Nat.{ℕ, _<_}
+use lib.ListN.{getD}
 use Rattle.network.specs.declared.refusal.Refusal.{Refusal}
-use Rattle.network.specs.Accepted.{WellFormed}
-use Rattle.file_network.specs.Inputs.{networkInput, networkRead}
 use Rattle.network.specs.declared.Network.{Network}
 use Rattle.network.specs.Networks.{emptyNetwork}
 use Rattle.network.specs.declared.refusal.Answer.{Answer}
 use Rattle.network.specs.declared.refusal.Answer.the-variants.{Accepted, Refused}
 use Rattle.file_network.specs.declared.NetworkRead.{NetworkRead}
+use Rattle.file_refusals.specs.Files.{FirstBroken}
+use Rattle.file_refusals.specs.Stated.{NetworkOf}
 use Rattle.feeding.specs.Networks.{netOf}
 use Rattle.feeding.specs.Acceptance.{Answered, safety, answerTo}
+
+-- ---- what the paper says of the planner's input
+
+-- "every sequence of input bytes"
+abbrev pub Bytes : List ℕ → Type 0
+Bytes s = (i : ℕ) → getD s i 0 < 256
+
+-- an accepted network: s is a network file that states n, and keeps rules 1 to 18
+pub record AcceptedNetwork (s : List ℕ) (n : Network) : Type 0 where
+  pub file : NetworkOf s n
+  pub kept : Answered (netOf n) Accepted
+
+-- "the first rule of document 01 that it breaks, with number and place": of 1 to 13 in the bytes, then of 14 to 18
+pub data FirstRule (s : List ℕ) : Refusal → Type 0 where
+  in-bytes : {f : Refusal} → FirstBroken s f → FirstRule s f
+  in-network : {f : Refusal} (n : Network) → NetworkOf s n → Answered (netOf n) (Refused f) → FirstRule s f
+
+-- what s is admitted as: "A refusal hands out no plan, mark or partial network."
+pub data Admission (s : List ℕ) : NetworkRead → Type 0 where
+  refused : {f : Refusal} → FirstRule s f → Admission s (record { answer = Refused f; net = emptyNetwork })
+  accepted : (n : Network) → AcceptedNetwork s n → Admission s (record { answer = Accepted; net = n })
+
+-- ---- what computes
 
 unfoldable pub startSafety : Network → Answer
 startSafety n = safety (netOf n .grid) (netOf n .startClosed)
@@ -28,20 +51,3 @@ acceptedFrom n (Refused r) = record { answer = Refused r; net = n }
 
 unfoldable pub acceptedRead : NetworkRead → NetworkRead
 acceptedRead r = acceptedFrom (r .net) (r .answer)
-
--- What the paper says of the planner's input s, and `input-admission` of `read_accepted`'s answer: a file that breaks one of rules 1 to 13 is
--- refused by it; one that passes them is read as a well-formed network, and gets what rules 14 to 18 say of it.
-pub data Admission (s : List ℕ) : NetworkRead → Type 0 where
-  unread : {r : Refusal} → networkRead (networkInput s) .answer ≡ Refused r → Admission s (record { answer = Refused r; net = emptyNetwork })
-  refused : {r : Refusal} (n : Network) → networkRead (networkInput s) ≡ record { answer = Accepted; net = n } → WellFormed n
-      → Answered (netOf n) (Refused r) → Admission s (record { answer = Refused r; net = emptyNetwork })
-  accepted : (n : Network) → networkRead (networkInput s) ≡ record { answer = Accepted; net = n } → WellFormed n
-      → Answered (netOf n) Accepted → Admission s (record { answer = Accepted; net = n })
-
--- the bytes s are a network file that keeps rules 1 to 18, and n is what it states
-abbrev pub Accepts : List ℕ → Network → Type 0
-Accepts s n = Admission s (record { answer = Accepted; net = n })
-
--- f is the first rule of 1 to 18 that s breaks, with its place
-abbrev pub Refuses : List ℕ → Refusal → Type 0
-Refuses s f = Admission s (record { answer = Refused f; net = emptyNetwork })

@@ -1,19 +1,19 @@
 // Rules 14 to 18: a network that passed rules 1 to 13 is refused by the first that it breaks, or accepted.
 use feeding_ends::own_ends;
+use feeding_operable::operable_count;
+use feeding_safety::check;
+use feeding_sets::members_of;
+use file_network::NetworkRead;
+use file_network::read_network;
 use network::Network;
 use network::refusal::Answer;
 use network::refusal::Refusal;
 use network::refusal::Rule;
-use file_network::NetworkRead;
-use file_network::read_network;
-use feeding_operable::operable_count;
-use feeding_safety::check;
-use feeding_sets::members_of;
 ghost use mathlib.Core.Path.{_≡_};
 ghost use Rattle.network.specs.Accepted.{WellFormed};
 ghost use Rattle.file_network.specs.Inputs.{networkInput, networkRead};
 ghost use Rattle.feeding.specs.Acceptance.{limited, answerTo};
-ghost use Rattle.feeding_acceptance.specs.Reading.{startSafety, handedOut, acceptedRead};
+ghost use Rattle.feeding_acceptance.specs.Reading.{Admission, startSafety, handedOut, acceptedRead};
 
 // Rules 14 to 17.
 fn start_safety(net: Network) -> Answer
@@ -71,6 +71,7 @@ fn after(net: Network, answer: Answer) -> NetworkRead
 // The planner's input: rules 1 to 13, then 14 to 18. A refusal hands out the empty network.
 pub fn read_accepted(s: &[u8]) -> NetworkRead
     ensures { λ r. ⌜ r ≡ acceptedRead (networkRead (networkInput (now (s .entry)))) ⌝ }
+    ensures { λ r. ⌜ Admission (now (s .entry)) r ⌝ }
 {
     let read = read_network(s);
     let answer = read.answer;

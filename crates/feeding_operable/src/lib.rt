@@ -1,11 +1,11 @@
 // The switches that may be operated: those with an end that is dark and restorable at the start.
-use network::Network;
 use feeding_restoration::live_elements;
 use feeding_restoration::restorable_elements;
 use feeding_sets::at_either_end;
 use feeding_sets::count_of;
 use feeding_sets::except;
 use feeding_sets::members_of;
+use network::Network;
 ghost use mathlib.Core.Path.{_≡_};
 ghost use lib.ListN.{length};
 ghost use Rattle.network.specs.Accepted.{WellFormed};

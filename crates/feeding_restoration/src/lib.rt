@@ -1,10 +1,10 @@
 // What a network's faults spoil, what can be restored, and what is live: sets of elements, 1 for a member.
-use network::Network;
 use feeding_parts::parts_of;
 use feeding_sets::at_either_end;
 use feeding_sets::except;
 use feeding_sets::members_of;
 use feeding_sets::spread;
+use network::Network;
 ghost use mathlib.Core.Path.{_≡_};
 ghost use Rattle.network.specs.Accepted.{WellFormed};
 ghost use Rattle.feeding.specs.Below.{bits};

@@ -1,16 +1,16 @@
 // Whether a configuration is safe, and the rule of 14 to 17 that it breaks first, with its place.
 use feeding_ends::OwnEnds;
 use feeding_loads::over_place;
-use network::Network;
-use network::refusal::Answer;
-use network::refusal::Refusal;
-use network::refusal::Rule;
 use feeding_parts::last_of_part;
 use feeding_parts::parts_of;
 use feeding_places::fault_place;
 use feeding_places::pair_place;
 use feeding_places::tree_place;
 use feeding_sets::members_of;
+use network::Network;
+use network::refusal::Answer;
+use network::refusal::Refusal;
+use network::refusal::Rule;
 ghost use mathlib.Core.Path.{_≡_};
 ghost use Prim.Native.Nat.{_<_};
 ghost use lib.ListN.{length, replicate};

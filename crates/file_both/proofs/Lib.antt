@@ -1,4 +1,3 @@
 pub mod Inputs
-pub mod Order
 pub mod Sizes
 pub mod Alike

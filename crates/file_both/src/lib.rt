@@ -1,11 +1,11 @@
 // The judge's input, a network file with a plan file directly behind it: every byte string has one reading.
-use network::Network;
-use network::refusal::Answer;
-use network::refusal::Refusal;
 use file_network::reader::Reached;
 use file_network::reader::network_file;
 use file_plan::plan::Plan;
 use file_plan::read_plan;
+use network::Network;
+use network::refusal::Answer;
+use network::refusal::Refusal;
 ghost use mathlib.Core.Path.{_≡_};
 ghost use Rattle.file_network.specs.Runs.{refused};
 ghost use Rattle.file_both.specs.Inputs.{planBehind, bothInput, bothRead};

@@ -1,13 +1,13 @@
 // The network file: one head, its elements, its links, one end.
 use file_fields::word_at;
-use network::Element;
-use network::Link;
-use network::Network;
-use network::refusal::Refusal;
 use file_reader::record_due;
 use file_records::Found;
 use file_stages::Stage;
 use file_stages::after_last;
+use network::Element;
+use network::Link;
+use network::Network;
+use network::refusal::Refusal;
 ghost use mathlib.Core.Path.{_≡_};
 ghost use Prim.Native.Nat.{_+_, _<_, _≤_};
 ghost use lib.ListN.{length};

@@ -4,8 +4,8 @@ pub mod reader;
 
 use crate::plan::Plan;
 use crate::reader::plan_file;
-use network::refusal::Answer;
 use file_network::ended;
+use network::refusal::Answer;
 ghost use mathlib.Core.Path.{_≡_};
 ghost use Rattle.file_plan.specs.Inputs.{planInput, planRead};
 

@@ -1,12 +1,12 @@
 // The plan file: one plan head, its steps, one end.
 use crate::plan::Plan;
 use file_fields::word_at;
-use network::refusal::Refusal;
 use file_network::reader::Reached;
 use file_reader::record_due;
 use file_records::Found;
 use file_stages::Stage;
 use file_stages::after_last;
+use network::refusal::Refusal;
 ghost use mathlib.Core.Path.{_≡_};
 ghost use Prim.Native.Nat.{_+_, _<_, _≤_};
 ghost use lib.ListN.{length};

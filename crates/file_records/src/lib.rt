@@ -1,12 +1,12 @@
 // One record: what stands at an offset, by document 01's rules 1 to 12, of which 5 to 12 are those of its fields.
 use file_fields::field_rules;
 use file_fields::word_at;
-use network::refusal::Refusal;
-use network::refusal::Rule;
-use network::refusal::Verdict;
 use file_stages::Next;
 use file_stages::Stage;
 use file_stages::next_stage;
+use network::refusal::Refusal;
+use network::refusal::Rule;
+use network::refusal::Verdict;
 ghost use mathlib.Core.Path.{_≡_};
 ghost use Prim.Native.Nat.{_-_};
 ghost use lib.ListN.{length};

@@ -1,7 +1,7 @@
 // The plan file out, into a lent buffer.
+use file_plan::plan::Plan;
 use network::refusal::Refusal;
 use network::refusal::Rule;
-use file_plan::plan::Plan;
 ghost use mathlib.Core.Path.{_≡_};
 ghost use Prim.Native.Nat.{_+_, _*_, _<_, _≤_};
 ghost use lib.ListN.{length};

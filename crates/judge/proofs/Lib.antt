@@ -1,3 +1,3 @@
 pub mod Read
-pub mod Kept
+pub mod Marking
 pub mod Ways

@@ -2,8 +2,8 @@
 -- Assumes nothing.
 use mathlib.Core.Path.{_≡_, sym, ap, _∙_, subst}
 use mathlib.Core.List.{List}
-use Prim.Native.Nat.{ℕ, _<_}
-use lib.ListN.{length, getD}
+use Prim.Native.Nat.{ℕ}
+use lib.ListN.{length, take}
 use Rattle.network.specs.declared.refusal.Refusal.{Refusal}
 use Rattle.network.specs.declared.refusal.Answer.{Answer}
 use Rattle.network.specs.declared.refusal.Answer.the-variants.{Accepted, Refused}
@@ -14,23 +14,24 @@ use Rattle.file_both.specs.Inputs.{bothInput, bothRead}
 use Rattle.feeding.specs.Networks.{netOf}
 use Rattle.feeding.specs.Acceptance.{Starts, answerTo}
 use Rattle.feeding.proofs.Views.{accepted-starts}
+use Rattle.feeding_acceptance.specs.Reading.{Bytes}
 use Rattle.plan_form.specs.Printing.{stepsOf}
 use Rattle.judge_marks.specs.declared.Mark.{Mark}
 use Rattle.judge_marks.specs.declared.Mark.the-variants as Mark·
 use Rattle.judge_marks.specs.Marks.{markOf}
 use Rattle.texts.specs.Texts.{inFront, Counted}
-use Rattle.texts.proofs.Pieces.{front-counted}
+use Rattle.texts.proofs.Pieces.{front-counted, text-in-front}
 use Rattle.judge_line.specs.MarkLines.{markLine}
-use Rattle.judge.specs.Judging.{MarkKept, markAccepted, markRead, markOfRead, markFor}
-use Rattle.judge.proofs.Kept.{mark-kept}
+use Rattle.judge.specs.Judging.{JudgeReply, markAccepted, markRead, markOfRead, markFor}
+use Rattle.judge.proofs.Marking.{judge-replies}
 use Rattle.judge.proofs.Read.{both-formed}
 
 -- ---- what was read
 
-module _ (s : List ℕ) (bytes : (i : ℕ) → getD s i 0 < 256) (read : BothRead) (is : read ≡ bothRead (bothInput s)) where
+module _ (s : List ℕ) (bytes : Bytes s) (read : BothRead) (is : read ≡ bothRead (bothInput s)) where
   -- the mark, and what it keeps
-  pub returned : (m : Mark) → m ≡ markFor s → (m ≡ markFor s) × MarkKept s m
-  returned m e = (e, subst (MarkKept s) (sym e) (mark-kept s bytes))
+  pub returned : (m : Mark) → m ≡ markFor s → (m ≡ markFor s) × JudgeReply s (markLine m)
+  returned m e = (e, subst (λ (x : Mark). JudgeReply s (markLine x)) (sym e) (judge-replies s bytes))
 
   pub unread-mark : (f : Refusal) → read .answer ≡ Refused f → Mark·.Refused f ≡ markFor s
   unfolding markFor markOfRead markRead
@@ -63,13 +64,16 @@ module _ (s : List ℕ) (bytes : (i : ℕ) → getD s i 0 < 256) (read : BothRea
 
 -- ---- the mark's line
 
-pub printed-mark : (s : List ℕ) (m : Mark) (buffer : List ℕ) {r : ℕ} {after : List ℕ} → (m ≡ markFor s) × MarkKept s m
+pub printed-mark : (s : List ℕ) (m : Mark) (buffer : List ℕ) {r : ℕ} {after : List ℕ} → (m ≡ markFor s) × JudgeReply s (markLine m)
     → (r ≡ length (markLine m)) × (after ≡ inFront (markLine m) buffer)
-    → (r ≡ length (markLine (markFor s))) × ((after ≡ inFront (markLine (markFor s)) buffer) × (Counted r after × MarkKept s (markFor s)))
-printed-mark s m buffer h put = (
+    → (r ≡ length (markLine (markFor s))) × ((after ≡ inFront (markLine (markFor s)) buffer) × (Counted r after × JudgeReply s (take r after)))
+printed-mark s m buffer {r} {after} h put = (
   put .0 ∙ ap (λ (x : Mark). length (markLine x)) (h .0),
   (
     put .1 ∙ ap (λ (x : Mark). inFront (markLine x) buffer) (h .0),
-    (rw (put .0, put .1) (front-counted (markLine m) buffer), subst (MarkKept s) (h .0) (h .1)),
+    (
+      rw (put .0, put .1) (front-counted (markLine m) buffer),
+      subst (JudgeReply s) (sym (text-in-front (markLine m) buffer after r (put .0) (put .1))) (h .1),
+    ),
   ),
 )

@@ -1,4 +1,4 @@
--- Document 01, the judge's reply to any sequence of bytes: the mark of a network file with a plan file directly behind it.
+-- Document 01, the judge's reply to any sequence of bytes: the line of the mark of a network file with a plan file directly behind it.
 -- Assumes nothing.
 use mathlib.Core.Path.{_≡_}
 use mathlib.Core.List.{List}
@@ -7,35 +7,39 @@ use Rattle.network.specs.declared.Network.{Network}
 use Rattle.network.specs.declared.refusal.Refusal.{Refusal}
 use Rattle.network.specs.declared.refusal.Answer.{Answer}
 use Rattle.network.specs.declared.refusal.Answer.the-variants.{Accepted, Refused}
-use Rattle.network.specs.Accepted.{WellFormed}
 use Rattle.file_plan.specs.declared.plan.Plan.{Plan}
 use Rattle.file_both.specs.declared.BothRead.{BothRead}
-use Rattle.file_plan.specs.Accepted.{WellFormedPlan}
 use Rattle.file_both.specs.Inputs.{bothInput, bothRead}
+use Rattle.file_refusals.specs.Files.{FirstBrokenBoth}
+use Rattle.file_refusals.specs.Stated.{BothOf}
 use Rattle.feeding.specs.Networks.{netOf}
 use Rattle.feeding.specs.Acceptance.{Answered, answerTo}
+use Rattle.feeding.specs.Plans.{Step}
 use Rattle.plan_form.specs.Printing.{stepsOf}
+use Rattle.texts.specs.Texts.{refusedLine}
 use Rattle.judge_marks.specs.declared.Mark.{Mark}
 use Rattle.judge_marks.specs.declared.Mark.the-variants as Mark·
 use Rattle.judge_marks.specs.Marks.{Marked, markOf}
+use Rattle.judge_line.specs.MarkLines.{markLine}
 
--- the bytes s are a network file and a plan file that keep rules 1 to 18, and n and p are what they state
-pub record Submits (s : List ℕ) (n : Network) (p : Plan) : Type 0 where
-  pub read : bothRead (bothInput s) ≡ record { answer = Accepted; net = n; plan = p }
-  pub formed : WellFormed n
-  pub plan-formed : WellFormedPlan (n .links) p
-  pub accepted : Answered (netOf n) Accepted
+-- ---- what the paper asks for
 
--- f is the first rule that s breaks, with its place: of rules 1 to 13 over both files, then of 14 to 18
-pub data RefusesBoth (s : List ℕ) : Refusal → Type 0 where
-  unread : {f : Refusal} → bothRead (bothInput s) .answer ≡ Refused f → RefusesBoth s f
-  unaccepted : {f : Refusal} (n : Network) (p : Plan) → bothRead (bothInput s) ≡ record { answer = Accepted; net = n; plan = p } → WellFormed n
-      → Answered (netOf n) (Refused f) → RefusesBoth s f
+-- an accepted submitted plan: s is a network file that states n, with a plan file of the steps q directly behind it, and keeps rules 1 to 18
+pub record AcceptedPlan (s : List ℕ) (n : Network) (q : List Step) : Type 0 where
+  pub plan : Plan
+  pub files : BothOf s n plan
+  pub steps : q ≡ stepsOf plan
+  pub kept : Answered (netOf n) Accepted
 
--- Demands 1 and 2 for the judge: what s is marked
-pub data MarkKept (s : List ℕ) : Mark → Type 0 where
-  accepted : (n : Network) (p : Plan) {m : Mark} → Submits s n p → Marked (netOf n) (stepsOf p) m → MarkKept s m
-  refused : {f : Refusal} → RefusesBoth s f → MarkKept s (Mark·.Refused f)
+-- the first rule that the judge's input breaks: of 1 to 13 over both files, then of 14 to 18
+pub data FirstRuleBoth (s : List ℕ) : Refusal → Type 0 where
+  in-bytes : {f : Refusal} → FirstBrokenBoth s f → FirstRuleBoth s f
+  in-network : {f : Refusal} (n : Network) (p : Plan) → BothOf s n p → Answered (netOf n) (Refused f) → FirstRuleBoth s f
+
+-- the judge's reply to s
+pub data JudgeReply (s : List ℕ) : List ℕ → Type 0 where
+  marked : (n : Network) (q : List Step) {m : Mark} → AcceptedPlan s n q → Marked (netOf n) q m → JudgeReply s (markLine m)
+  refused : {f : Refusal} → FirstRuleBoth s f → JudgeReply s (refusedLine f)
 
 -- ---- what computes
 

@@ -3,18 +3,18 @@ use feeding_acceptance::accept;
 use file_both::read_network_and_plan;
 use judge_line::mark_line;
 use judge_marks::Mark;
-use network::refusal::Answer;
 use judge_score::marked;
+use network::refusal::Answer;
 ghost use mathlib.Core.Path.{_≡_};
-ghost use lib.ListN.{length};
+ghost use lib.ListN.{length, take};
 ghost use Rattle.texts.specs.Texts.{inFront, Counted};
 ghost use Rattle.judge_line.specs.MarkLines.{markLine};
-ghost use Rattle.judge.specs.Judging.{markFor, MarkKept};
+ghost use Rattle.judge.specs.Judging.{JudgeReply, markFor};
 
 // The mark of a network file with a plan file directly behind it: rules 1 to 13 over both files, then 14 to 18, then the plan.
 pub fn mark_of(s: &[u8]) -> Mark
     ensures { λ r. ⌜ r ≡ markFor (now (s .entry)) ⌝ }
-    ensures { λ r. ⌜ MarkKept (now (s .entry)) r ⌝ }
+    ensures { λ r. ⌜ JudgeReply (now (s .entry)) (markLine r) ⌝ }
 {
     let read = read_network_and_plan(s);
     let answer = read.answer;
@@ -37,7 +37,7 @@ pub fn mark_text(s: &[u8], out: &mut [u8; 4096]) -> usize
     ensures { λ r. ⌜ r ≡ length (markLine (markFor (now (s .entry)))) ⌝ }
     ensures { λ _. ⌜ now (out .exit) ≡ inFront (markLine (markFor (now (s .entry)))) (now (out .entry)) ⌝ }
     ensures { λ r. ⌜ Counted r (now (out .exit)) ⌝ }
-    ensures { λ _. ⌜ MarkKept (now (s .entry)) (markFor (now (s .entry))) ⌝ }
+    ensures { λ r. ⌜ JudgeReply (now (s .entry)) (take r (now (out .exit))) ⌝ }
 {
     let mark = mark_of(s);
     mark_line(mark, out)

@@ -1,7 +1,7 @@
 // Whether closing an open link keeps a safe configuration safe: a walk over the part of each end before, and one of loads from their source afterwards.
 use feeding_capacity::within_from;
-use judge_safe_steps::Joining;
 use feeding_part_sums::element_sum;
+use judge_safe_steps::Joining;
 ghost use mathlib.Core.Path.{_≡_};
 ghost use lib.ListN.{length, set};
 ghost use Rattle.feeding.specs.Below.{tabulate};

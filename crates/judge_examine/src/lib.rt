@@ -1,16 +1,16 @@
 // A submitted plan examined step by step, each step by the parts that it touches: its first bad step, and the lowest reason that fits.
-use judge_closing::closing_safe;
-use judge_closing::signs_of;
 use feeding_ends::own_ends;
-use judge_marks::BadStep;
-use judge_marks::Examined;
-use judge_marks::Reason;
-use network::Network;
+use feeding_sets::members_of;
 use feeding_walks::packed_ends;
 use feeding_walks::packed_rating;
 use file_plan::plan::Plan;
-use feeding_sets::members_of;
+use judge_closing::closing_safe;
+use judge_closing::signs_of;
+use judge_marks::BadStep;
+use judge_marks::Examined;
+use judge_marks::Reason;
 use judge_steps::state_of;
+use network::Network;
 ghost use mathlib.Core.Path.{_≡_};
 ghost use mathlib.Core.Bool.{not};
 ghost use lib.Dec.{eqb};

@@ -1,17 +1,17 @@
 // The mark of a plan in an accepted network.
-use plan_least_cost::Cheapest;
-use plan_least_cost::cheapest_cost;
+use feeding_operable::operable_switches;
+use feeding_sets::members_of;
+use file_plan::plan::Plan;
 use judge_examine::examine;
 use judge_marks::Examined;
 use judge_marks::Mark;
 use judge_marks::Score;
-use network::Network;
-use feeding_operable::operable_switches;
-use file_plan::plan::Plan;
-use feeding_sets::members_of;
 use judge_steps::lowest_dark;
 use judge_steps::plan_cost;
 use judge_steps::states_after;
+use network::Network;
+use plan_least_cost::Cheapest;
+use plan_least_cost::cheapest_cost;
 ghost use mathlib.Core.Path.{_≡_};
 ghost use Rattle.network.specs.Accepted.{WellFormed};
 ghost use Rattle.file_plan.specs.Accepted.{WellFormedPlan};

@@ -1,9 +1,9 @@
 // A submitted plan carried out: the states that it leads to, its cost, and what is still dark then.
-use network::Network;
-use file_plan::plan::Plan;
 use feeding_restoration::live_elements;
 use feeding_restoration::restorable_elements;
 use feeding_sets::except;
+use file_plan::plan::Plan;
+use network::Network;
 ghost use mathlib.Core.Path.{_≡_};
 ghost use Prim.Native.Nat.{_≤_};
 ghost use lib.ListN.{length};

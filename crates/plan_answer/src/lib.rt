@@ -1,13 +1,13 @@
 // What a network file is answered: the outcome of the cheapest set.
 use feeding_acceptance::read_accepted;
-use plan_cheapest::cheapest_set;
+use file_plan::plan::Plan;
 use network::Network;
 use network::refusal::Answer;
+use plan_cheapest::cheapest_set;
 use plan_outcome::Outcome;
 use plan_outcome::Reply;
 use plan_outcome::with_plan;
 use plan_outcome::without_plan;
-use file_plan::plan::Plan;
 use plan_problem::Best;
 ghost use mathlib.Core.Path.{_≡_};
 ghost use Rattle.network.specs.Accepted.{WellFormed};

@@ -1,12 +1,12 @@
 // The sets of operable switches whose last configuration is radial, keeps faults from sources, feeds every restorable element and asks no more of a
 // source than it bears, tried in the set order: the search starts from the parts that stand while every operable switch is open.
-use plan_holdings::holdings;
-use plan_holdings::waiting_parts;
-use network::Network;
 use feeding_parts::parts_of;
-use plan_search::seek;
 use feeding_sets::members_of;
 use feeding_sets::spread;
+use network::Network;
+use plan_holdings::holdings;
+use plan_holdings::waiting_parts;
+use plan_search::seek;
 use plan_setting::packed_setting;
 use plan_sums::load_of;
 use plan_supply::demand_of;

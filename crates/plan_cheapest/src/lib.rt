@@ -1,17 +1,17 @@
 // The cheapest set of operable switches that restores a network; the first in the set order where several cost the same.
+use feeding_operable::operable_switches;
+use feeding_restoration::restorable_elements;
+use feeding_sets::except;
+use feeding_sets::members_of;
+use feeding_walks::packed_ends;
+use feeding_walks::packed_rating;
+use network::Network;
 use plan_candidates::falls_short;
 use plan_candidates::seek_candidates;
 use plan_lumping::closable_ends;
 use plan_lumping::layers_for;
 use plan_lumping::lump_layers;
-use network::Network;
-use feeding_operable::operable_switches;
-use feeding_walks::packed_ends;
-use feeding_walks::packed_rating;
 use plan_problem::Best;
-use feeding_restoration::restorable_elements;
-use feeding_sets::except;
-use feeding_sets::members_of;
 use plan_switches::switches_of;
 ghost use mathlib.Core.Path.{_≡_};
 ghost use Rattle.network.specs.Accepted.{WellFormed};

@@ -107,6 +107,16 @@ steps-with q k =
     ∙ steps-all emptyPlan q (omega (arith, empty-steps, empty-links)) (omega (arith, empty-steps, empty-states))
     ∙ ap (λ (n : ℕ). stepsTo emptyPlan n ++ q) empty-steps
 
+-- a plan's count of steps is the length of its list of steps
+steps-count : (p : Plan) (n : ℕ) → length (stepsTo p n) ≡ n
+unfolding stepsTo
+steps-count p zero = refl
+steps-count p (suc n) = length-append (stepsTo p n) _ ∙ omega (arith, steps-count p n)
+
+pub steps-length : (p : Plan) → length (stepsOf p) ≡ p .steps
+unfolding stepsOf
+steps-length p = steps-count p (p .steps)
+
 -- ---- a well-formed plan
 
 -- every step's link is below m
@@ -143,7 +153,7 @@ plan-well-formed links q k h =
 
 -- ---- a sweep
 
-length-sweep : (w : Bool) (pick : ℕ → Bool) (n : ℕ) → length (sweep w pick n) ≡ sumTo n (λ l. gate (pick l) 1)
+pub length-sweep : (w : Bool) (pick : ℕ → Bool) (n : ℕ) → length (sweep w pick n) ≡ sumTo n (λ l. gate (pick l) 1)
 unfolding sweep sumTo
 length-sweep w pick zero = refl
 length-sweep w pick (suc n) = length-append (sweep w pick n) _ ∙ ap₂ _+_ (length-sweep w pick n) (go (pick n))

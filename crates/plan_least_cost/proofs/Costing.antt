@@ -1,13 +1,12 @@
 -- The cheapest set's cost is the least of any valid plan, for an accepted network and for the bytes that it was read from.
 -- Assumes nothing.
-use mathlib.Core.Path.{_≡_, sym, ap, _∙_, subst}
+use mathlib.Core.Path.{_≡_, sym, _∙_, subst}
 use mathlib.Core.List.{List}
 use Prim.Native.Nat.{ℕ, _≤_, _<_}
 use native.Mathlib.Omega.{arith}
 use Rattle.network.specs.declared.Network.{Network}
 use Rattle.network.specs.declared.refusal.Refusal.{Refusal}
 use Rattle.network.specs.Accepted.{WellFormed}
-use Rattle.network.specs.declared.refusal.Answer.{Answer}
 use Rattle.network.specs.declared.refusal.Answer.the-variants as Answer·
 use Rattle.file_network.specs.declared.NetworkRead.{NetworkRead}
 use Rattle.feeding.specs.Acceptance.{Starts}
@@ -15,8 +14,9 @@ use Rattle.feeding.specs.Networks.{netOf}
 use Rattle.feeding.specs.Plans.{costOf}
 use Rattle.feeding.specs.Restoration.{Operable, Restored}
 use Rattle.feeding.proofs.Views.{formed-net}
-use Rattle.feeding_acceptance.specs.Reading.{Admission, Refuses}
+use Rattle.feeding_acceptance.specs.Reading.{Admission, FirstRule}
 use Rattle.feeding_acceptance.specs.Reading as Reading
+use Rattle.feeding_acceptance.proofs.Promises.{same-refusal}
 use Rattle.plan_problem.specs.declared.Best.{Best}
 use Rattle.plan_problem.specs.Choosing.{CostsLeast}
 use Rattle.plan_problem.specs.Sets.{cheapestSet}
@@ -40,22 +40,12 @@ module _ (n : Network) (well : WellFormed n) (best : Best) (is : best ≡ cheape
 
 -- ---- of the bytes s, by what was read
 
-heldRefusal : Refusal → Answer → Refusal
-heldRefusal f Answer·.Accepted = f
-heldRefusal f (Answer·.Refused g) = g
-
-same-refusal : {f g : Refusal} → Answer·.Refused f ≡ Answer·.Refused g → f ≡ g
-unfolding heldRefusal
-same-refusal {f} e = ap (heldRefusal f) e
-
 pub cheapest-bytes : (s : List ℕ) (read : NetworkRead) → Admission s read → read .answer ≡ Answer·.Accepted
     → (r : Cheapest) → CheapestIn (netOf (read .net)) r → CheapestFor s r
-cheapest-bytes s _ (Reading.unread _) e r h = let z : _≡_ {A = ℕ} 0 1 = cc in absurd (omega arith)
-cheapest-bytes s _ (Reading.refused _ _ _ _) e r h = let z : _≡_ {A = ℕ} 0 1 = cc in absurd (omega arith)
-cheapest-bytes s _ (Reading.accepted n q w a) e r h = LeastCost.accepted n (Reading.accepted n q w a) h
+cheapest-bytes s _ (Reading.refused _) e r h = let z : _≡_ {A = ℕ} 0 1 = cc in absurd (omega arith)
+cheapest-bytes s _ (Reading.accepted n a) e r h = LeastCost.accepted n a h
 
 pub cheapest-refused : (s : List ℕ) (read : NetworkRead) → Admission s read → (f : Refusal) → read .answer ≡ Answer·.Refused f
     → CheapestFor s (Cheapest·.Refused f)
-cheapest-refused s _ (Reading.unread q) f e = LeastCost.refused (subst (Refuses s) (same-refusal e) (Reading.unread q))
-cheapest-refused s _ (Reading.refused n q w a) f e = LeastCost.refused (subst (Refuses s) (same-refusal e) (Reading.refused n q w a))
-cheapest-refused s _ (Reading.accepted _ _ _ _) f e = let z : _≡_ {A = ℕ} 0 1 = cc in absurd (omega arith)
+cheapest-refused s _ (Reading.refused b) f e = LeastCost.refused (subst (FirstRule s) (same-refusal e) b)
+cheapest-refused s _ (Reading.accepted _ _) f e = let z : _≡_ {A = ℕ} 0 1 = cc in absurd (omega arith)

@@ -1,9 +1,9 @@
 // What the cheapest valid plan costs: the planner's contract for the judge.
 use feeding_acceptance::read_accepted;
-use plan_cheapest::cheapest_set;
 use network::Network;
 use network::refusal::Answer;
 use network::refusal::Refusal;
+use plan_cheapest::cheapest_set;
 use plan_problem::Best;
 ghost use Rattle.network.specs.Accepted.{WellFormed};
 ghost use Rattle.feeding.specs.Networks.{netOf};

@@ -3,9 +3,9 @@
 use mathlib.Core.Path.{_≡_, refl, sym, ap, _∙_, subst}
 use mathlib.Core.Bool.{Bool}
 use mathlib.Core.List.{List}
-use Prim.Native.Nat.{ℕ, _≤_, _<_}
+use Prim.Native.Nat.{ℕ, _≤_}
 use native.Mathlib.Omega.{arith}
-use lib.ListN.{getD, take}
+use lib.ListN.{take}
 use Rattle.network.specs.declared.Network.{Network}
 use Rattle.network.specs.declared.refusal.Refusal.{Refusal}
 use Rattle.network.specs.declared.refusal.Answer.the-variants as Answer·
@@ -15,8 +15,9 @@ use Rattle.file_network.proofs.NetworkAlike.{network-decided}
 use Rattle.file_network.specs.Runs as Runs
 use Rattle.feeding.specs.Networks.{Net, netOf}
 use Rattle.feeding.specs.Plans.{Step, ValidPlan, costOf, printedForm}
-use Rattle.feeding_acceptance.specs.Reading.{acceptedRead, Admission, Accepts, Refuses}
-use Rattle.feeding_acceptance.proofs.Promises.{admission-only}
+use Rattle.feeding_acceptance.specs.Reading.{acceptedRead, Bytes, AcceptedNetwork, FirstRule}
+use Rattle.feeding_acceptance.specs.Reading as Reading
+use Rattle.feeding_acceptance.proofs.Promises.{admission-only, network-once, accepted-unrefused}
 use Rattle.plan_problem.specs.Choosing.{Promised, NoPlan}
 use Rattle.plan_problem.proofs.Preferring.{first-same}
 use Rattle.plan_form.specs.Printing.{stepsOf}
@@ -27,54 +28,40 @@ use Rattle.plan_outcome.specs.declared.Reply.the-variants as Reply·
 use Rattle.plan_outcome.specs.Outcomes.{outcomeRead, outcomeAnswered, outcome}
 use Rattle.plan_outcome.proofs.Promises.{outcome-kept}
 
--- ---- one judgement of the bytes
-
-admission-once : (s : List ℕ) (r r′ : NetworkRead) → Admission s r → Admission s r′ → r ≡ r′
-admission-once s r r′ j j′ = admission-only s r j ∙ sym (admission-only s r′ j′)
-
-accepted-once : (s : List ℕ) (n n′ : Network) → Accepts s n → Accepts s n′ → n ≡ n′
-accepted-once s n n′ a a′ = ap (λ (r : NetworkRead). r .net) (admission-once s _ _ a a′)
-
-accepted-unrefused : (s : List ℕ) (n : Network) (f : Refusal) → Accepts s n → ¬ Refuses s f
-accepted-unrefused s n f a r =
-    let same : Answer·.Accepted ≡ Answer·.Refused f = ap (λ (x : NetworkRead). x .answer) (admission-once s _ _ a r) in
-    let z : _≡_ {A = ℕ} 0 1 = cc in
-    absurd (omega arith)
-
 -- ---- exactly which outcome
 
-module _ (s : List ℕ) (bytes : (i : ℕ) → getD s i 0 < 256) where
+module _ (s : List ℕ) (bytes : Bytes s) where
   -- "for an accepted network NONE is printed if and only if no such plan exists"
-  pub none-exactly : (n : Network) → Accepts s n
+  pub none-exactly : (n : Network) → AcceptedNetwork s n
       → (((l : Sums) × (outcome s .reply ≡ Reply·.NoPlan l)) → NoPlan (netOf n)) × (NoPlan (netOf n) → (l : Sums) × (outcome s .reply ≡ Reply·.NoPlan l))
   none-exactly n a = (
     λ h. let kept = outcome-kept s bytes .none (h .0) (h .1) in
-        subst (λ (m : Network). NoPlan (netOf m)) (accepted-once s (kept .net) n (kept .accepted) a) (kept .no-plan),
+        subst (λ (m : Network). NoPlan (netOf m)) (network-once s bytes (kept .net) n (kept .accepted) a) (kept .no-plan),
     λ none. go none (outcome s .reply) refl,
   )
     where
       go : NoPlan (netOf n) → (r : Reply) → outcome s .reply ≡ r → (l : Sums) × (outcome s .reply ≡ Reply·.NoPlan l)
       go none (Reply·.Plan p) e =
           let kept = outcome-kept s bytes .plan p e in
-          absurd (subst (λ (m : Network). NoPlan (netOf m)) (accepted-once s n (kept .net) a (kept .accepted)) none (stepsOf (outcome s .plan))
+          absurd (subst (λ (m : Network). NoPlan (netOf m)) (network-once s bytes n (kept .net) a (kept .accepted)) none (stepsOf (outcome s .plan))
           (kept .promised .valid))
       go none (Reply·.NoPlan l) e = (l, e)
-      go none (Reply·.Refused f) e = absurd (accepted-unrefused s n f a (outcome-kept s bytes .refused f e))
+      go none (Reply·.Refused f) e = absurd (accepted-unrefused s bytes n f a (outcome-kept s bytes .refused f e))
 
   -- "by demand 2 every accepted one that has a valid plan"
-  pub plan-exactly : (n : Network) → Accepts s n → (q : List Step) → ValidPlan (netOf n) q → (p : Planned) × (outcome s .reply ≡ Reply·.Plan p)
+  pub plan-exactly : (n : Network) → AcceptedNetwork s n → (q : List Step) → ValidPlan (netOf n) q → (p : Planned) × (outcome s .reply ≡ Reply·.Plan p)
   plan-exactly n a q v = go (outcome s .reply) refl
     where
       go : (r : Reply) → outcome s .reply ≡ r → (p : Planned) × (outcome s .reply ≡ Reply·.Plan p)
       go (Reply·.Plan p) e = (p, e)
       go (Reply·.NoPlan l) e = absurd (none-exactly n a .0 (l, e) q v)
-      go (Reply·.Refused f) e = absurd (accepted-unrefused s n f a (outcome-kept s bytes .refused f e))
+      go (Reply·.Refused f) e = absurd (accepted-unrefused s bytes n f a (outcome-kept s bytes .refused f e))
 
   -- demand 1: what breaks a rule is refused by its first broken rule, with its place, and nothing else is refused
-  pub refused-exactly : (f : Refusal) → (Refuses s f → outcome s .reply ≡ Reply·.Refused f) × (outcome s .reply ≡ Reply·.Refused f → Refuses s f)
+  pub refused-exactly : (f : Refusal) → (FirstRule s f → outcome s .reply ≡ Reply·.Refused f) × (outcome s .reply ≡ Reply·.Refused f → FirstRule s f)
   unfolding outcome outcomeRead outcomeAnswered
   refused-exactly f = (
-    λ r. ap (λ (x : NetworkRead). outcomeRead x .reply) (sym (admission-only s _ r)),
+    λ r. ap (λ (x : NetworkRead). outcomeRead x .reply) (sym (admission-only s bytes _ (Reading.refused r))),
     λ e. outcome-kept s bytes .refused f e,
   )
 

@@ -1,11 +1,11 @@
 -- Demands 1, 2 and 3 for the planner's outcome: each case of `Admission` ends in one case of the outcome, which the choice's promise covers.
 -- Assumes nothing.
-use mathlib.Core.Path.{_≡_, refl, sym, ap, subst}
+use mathlib.Core.Path.{_≡_, sym, ap, subst}
 use mathlib.Core.Bool.{Bool}
 use mathlib.Core.List.{List}
-use Prim.Native.Nat.{ℕ, _+_, _≤_, _<_}
+use Prim.Native.Nat.{ℕ, _≤_}
 use native.Mathlib.Omega.{arith}
-use lib.ListN.{length, getD}
+use lib.ListN.{length}
 use Rattle.network.specs.declared.Network.{Network}
 use Rattle.network.specs.declared.refusal.Refusal.{Refusal}
 use Rattle.network.specs.Accepted.{WellFormed}
@@ -13,27 +13,49 @@ use Rattle.file_network.specs.Inputs.{networkInput, networkRead}
 use Rattle.file_network.specs.declared.NetworkRead.{NetworkRead}
 use Rattle.feeding.specs.Acceptance.{Starts}
 use Rattle.feeding.specs.Networks.{netOf, gridOf}
-use Rattle.feeding.specs.Parts.{Config}
 use Rattle.feeding.specs.Plans.{Step, costOf, printedForm, run, setCost}
-use Rattle.feeding.specs.Restoration.{fedLoad, darkLoad, lostLoad, totalLoad}
 use Rattle.feeding.proofs.Balance.{balance}
 use Rattle.feeding.proofs.Views.{formed-net, fixed-closed, plan-balance}
-use Rattle.feeding_acceptance.specs.Reading.{acceptedRead, Admission, Accepts, Refuses}
+use Rattle.feeding_acceptance.specs.Reading.{acceptedRead, Bytes, AcceptedNetwork, FirstRule, Admission}
 use Rattle.feeding_acceptance.specs.Reading as Reading
-use Rattle.feeding_acceptance.proofs.Promises.{input-admission, input-starts}
+use Rattle.feeding_acceptance.proofs.Promises.{input-admission, network-starts}
 use Rattle.file_plan.specs.declared.plan.Plan.{Plan}
 use Rattle.file_plan.specs.PlanFiles.{emptyPlan}
-use Rattle.plan_problem.specs.Choosing.{Choice, nothing, chosen, planned, Promised}
+use Rattle.plan_problem.specs.Choosing.{Choice, nothing, chosen, planned, Promised, NoPlan}
 use Rattle.plan_problem.proofs.Choices.{PromisedChoice, planned-promised}
 use Rattle.plan_form.specs.Printing.{planWith, stepsOf}
 use Rattle.plan_form.proofs.Steps.{steps-with, printed-length}
 use Rattle.plan_sums.specs.declared.Sums.{Sums}
-use Rattle.plan_sums.specs.Sums.{sumsAfter}
+use Rattle.plan_sums.specs.Sums.{LoadsIn, sumsAfter}
+use Rattle.plan_sums.proofs.Loads.{sums-in}
 use Rattle.plan_outcome.specs.declared.Planned.{Planned}
 use Rattle.plan_outcome.specs.declared.Reply.{Reply}
 use Rattle.plan_outcome.specs.declared.Reply.the-variants as Reply·
 use Rattle.plan_outcome.specs.Outcomes.{plannedBy, unplanned, outcomeFrom, outcomeOf, outcomeAnswered, outcomeRead, outcome}
-use Rattle.plan_outcome.specs.Promises.{LoadsIn, PlanKept, NoneKept, OutcomeKept}
+use Rattle.plan_outcome.specs.declared.Outcome.{Outcome}
+
+-- ---- what an outcome promises, in the paper's terms: the cases of the replies that `planner` promises
+
+-- PLAN
+pub record PlanKept (s : List ℕ) (p : Planned) (plan : Plan) : Type 0 where
+  pub net : Network
+  pub accepted : AcceptedNetwork s net
+  pub steps : p .steps ≡ length (stepsOf plan)
+  pub promised : Promised (netOf net) (stepsOf plan) (p .cost)
+  pub loads : LoadsIn (netOf net) (run (netOf net .startClosed) (stepsOf plan)) (p .sums)
+
+-- NONE
+pub record NoneKept (s : List ℕ) (l : Sums) : Type 0 where
+  pub net : Network
+  pub accepted : AcceptedNetwork s net
+  pub no-plan : NoPlan (netOf net)
+  pub loads : LoadsIn (netOf net) (netOf net .startClosed) l
+
+-- what is answered to s, whatever the buffer
+pub record OutcomeKept (s : List ℕ) (o : Outcome) : Type 0 where
+  pub plan : (p : Planned) → o .reply ≡ Reply·.Plan p → PlanKept s p (o .plan)
+  pub none : (l : Sums) → o .reply ≡ Reply·.NoPlan l → NoneKept s l
+  pub refused : (f : Refusal) → o .reply ≡ Reply·.Refused f → FirstRule s f
 
 -- ---- what a reply's constructor holds
 
@@ -80,11 +102,11 @@ none-outcome s l plan kept = record {
   refused = λ f e. let z : _≡_ {A = ℕ} 0 1 = cc in absurd (omega arith);
 }
 
-refused-outcome : (s : List ℕ) (f : Refusal) (plan : Plan) → Refuses s f → OutcomeKept s (record { reply = Reply·.Refused f; plan = plan })
+refused-outcome : (s : List ℕ) (f : Refusal) (plan : Plan) → FirstRule s f → OutcomeKept s (record { reply = Reply·.Refused f; plan = plan })
 refused-outcome s f plan kept = record {
   plan = λ q e. let z : _≡_ {A = ℕ} 0 1 = cc in absurd (omega arith);
   none = λ l e. let z : _≡_ {A = ℕ} 0 1 = cc in absurd (omega arith);
-  refused = λ g e. subst (Refuses s) (same-refusal e) kept;
+  refused = λ g e. subst (FirstRule s) (same-refusal e) kept;
 }
 
 -- ---- an accepted network's outcome
@@ -94,12 +116,7 @@ module _ (n : Network) (well : WellFormed n) (starts : Starts (netOf n)) where
   unfolding netOf gridOf
   links-few = well .links-fit
 
-  loads-in : (c : Config) → fedLoad (netOf n) c + darkLoad (netOf n) c + lostLoad (netOf n) ≡ totalLoad (netOf n .grid)
-      → LoadsIn (netOf n) c (sumsAfter (netOf n) c)
-  unfolding sumsAfter
-  loads-in c whole = record { fed = refl; dark = refl; lost = refl; total = whole }
-
-  module _ (s : List ℕ) (accepts : Accepts s n) where
+  module _ (s : List ℕ) (accepts : AcceptedNetwork s n) where
     -- a plan is kept with the steps that were put into it
     read-back : (q : List Step) (D : ℕ → Bool) → length q ≤ 255 → Promised (netOf n) q (setCost (netOf n) D)
         → PlanKept s (record { steps = length q; cost = costOf (netOf n) q; sums = sumsAfter (netOf n) (run (netOf n .startClosed) q) })
@@ -111,7 +128,7 @@ module _ (n : Network) (well : WellFormed n) (starts : Starts (netOf n)) where
       promised = subst (λ (x : List Step). Promised (netOf n) x (costOf (netOf n) q)) back
           (subst (Promised (netOf n) q) (promise .own) promise);
       loads = subst (λ (x : List Step). LoadsIn (netOf n) (run (netOf n .startClosed) x) (sumsAfter (netOf n) (run (netOf n .startClosed) q))) back
-          (loads-in (run (netOf n .startClosed) q) (plan-balance n well (starts .safe) q (promise .valid .good)));
+          (sums-in (netOf n) (formed-net n well) (run (netOf n .startClosed) q) (plan-balance n well (starts .safe) q (promise .valid .good)));
     }
       where
         back : q ≡ stepsOf (planWith emptyPlan q)
@@ -124,7 +141,7 @@ module _ (n : Network) (well : WellFormed n) (starts : Starts (netOf n)) where
           net = n;
           accepted = accepts;
           no-plan = promise;
-          loads = loads-in (netOf n .startClosed)
+          loads = sums-in (netOf n) (formed-net n well) (netOf n .startClosed)
               (balance (netOf n) (formed-net n well) (netOf n .startClosed) (fixed-closed n) (starts .safe));
         })
     choice-kept (chosen D) promise =
@@ -137,13 +154,13 @@ module _ (n : Network) (well : WellFormed n) (starts : Starts (netOf n)) where
 
 -- ---- the outcome of any bytes
 
-module _ (s : List ℕ) (bytes : (i : ℕ) → getD s i 0 < 256) where
+module _ (s : List ℕ) (bytes : Bytes s) where
   read-kept : (r : NetworkRead) → Admission s r → OutcomeKept s (outcomeRead r)
   unfolding outcomeRead outcomeAnswered
-  read-kept _ (Reading.unread {r = f} e) = refused-outcome s f emptyPlan (Reading.unread e)
-  read-kept _ (Reading.refused {r = f} n e w h) = refused-outcome s f emptyPlan (Reading.refused n e w h)
-  read-kept _ (Reading.accepted n e w h) =
-      accepted-kept n w (input-starts s bytes _ (Reading.accepted n e w h) refl .1) s (Reading.accepted n e w h)
+  read-kept _ (Reading.refused {f = f} b) = refused-outcome s f emptyPlan b
+  read-kept _ (Reading.accepted n a) =
+      let starts = network-starts s bytes n a in
+      accepted-kept n (starts .0) (starts .1) s a
 
   pub outcome-kept : OutcomeKept s (outcome s)
   unfolding outcome

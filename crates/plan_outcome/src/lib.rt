@@ -1,10 +1,10 @@
 // The outcomes for a network file: the plan with its cost and loads, that there is none, or a refusal.
+use feeding_operable::operable_switches;
+use feeding_sets::members_of;
+use file_plan::plan::Plan;
 use network::Network;
 use network::refusal::Refusal;
-use feeding_operable::operable_switches;
-use file_plan::plan::Plan;
 use plan_form::printed_plan;
-use feeding_sets::members_of;
 use plan_sums::Sums;
 use plan_sums::sums_after;
 use plan_switches::switches_of;

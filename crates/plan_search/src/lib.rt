@@ -2,10 +2,10 @@
 // is whole. In its functions `fix` is the packed setting, `ends` and `rate` are the walk's arrays, `on` has the states of the links, `up` the parents of the
 // parts, `has` what each part holds, `spare` its number, and `fed` says how many parts no longer wait.
 use feeding_capacity::within_from;
+use feeding_parts::root;
 use plan_holdings::clashing;
 use plan_holdings::held_together;
 use plan_holdings::served_by;
-use feeding_parts::root;
 use plan_supply::carried_on;
 use plan_supply::overburdened;
 ghost use mathlib.Core.Path.{_≡_};

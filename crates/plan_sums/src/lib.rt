@@ -1,8 +1,8 @@
 // The three sums of the LOAD line: loads of live elements, of restorable elements that are dark, and of elements that are not restorable.
-use network::Network;
 use feeding_restoration::live_elements;
 use feeding_restoration::restorable_elements;
 use feeding_sets::except;
+use network::Network;
 ghost use mathlib.Core.Path.{_≡_};
 ghost use lib.ListN.{length};
 ghost use Rattle.network.specs.Accepted.{WellFormed};

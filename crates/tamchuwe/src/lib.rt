@@ -11,8 +11,8 @@ use planner::plan_text;
 ghost use mathlib.Core.Path.{_≡_};
 ghost use lib.ListN.{length};
 ghost use Rattle.plan_outcome.specs.Outcomes.{outcome};
-ghost use Rattle.planner.specs.Replies.{replyFor, bufferFor, linesOf};
-ghost use Rattle.judge.specs.Judging.{markFor};
+ghost use Rattle.planner.specs.Replies.{PlannerReply, LibraryReply, replyFor, bufferFor, linesOf};
+ghost use Rattle.judge.specs.Judging.{JudgeReply, markFor};
 ghost use Rattle.judge_line.specs.MarkLines.{markLine};
 ghost use Rattle.host_values.specs.Values.{replyKind, replyValues, markKind, markValues};
 ghost use Rattle.host_texts.specs.Fitting.{textIn};
@@ -23,6 +23,7 @@ pub extern "C" fn tamchuwe_plan(network: &[u8], buffer: &mut [u8], values: &mut 
     ensures { λ r. ⌜ r ≡ replyKind (replyFor (outcome (now (network .entry))) (now (buffer .entry))) ⌝ }
     ensures { λ _. ⌜ now (buffer .exit) ≡ bufferFor (outcome (now (network .entry))) (now (buffer .entry)) ⌝ }
     ensures { λ _. ⌜ now (values .exit) ≡ replyValues (replyFor (outcome (now (network .entry))) (now (buffer .entry))) ⌝ }
+    ensures { λ _. ⌜ LibraryReply (now (network .entry)) (now (buffer .entry)) (replyFor (outcome (now (network .entry))) (now (buffer .entry))) (now (buffer .exit)) ⌝ }
 {
     let reply = plan_into(network, buffer);
     *values = reply_values(reply);
@@ -34,6 +35,7 @@ pub extern "C" fn tamchuwe_plan(network: &[u8], buffer: &mut [u8], values: &mut 
 pub extern "C" fn tamchuwe_mark(input: &[u8], values: &mut [u64; 2]) -> u64
     ensures { λ r. ⌜ r ≡ markKind (markFor (now (input .entry))) ⌝ }
     ensures { λ _. ⌜ now (values .exit) ≡ markValues (markFor (now (input .entry))) ⌝ }
+    ensures { λ _. ⌜ JudgeReply (now (input .entry)) (markLine (markFor (now (input .entry)))) ⌝ }
 {
     let mark = mark_of(input);
     *values = mark_values(mark);
@@ -45,6 +47,7 @@ pub extern "C" fn tamchuwe_mark(input: &[u8], values: &mut [u64; 2]) -> u64
 pub extern "C" fn tamchuwe_plan_text(network: &[u8], out: &mut [u8]) -> usize
     ensures { λ r. ⌜ r ≡ length (linesOf (outcome (now (network .entry)))) ⌝ }
     ensures { λ _. ⌜ now (out .exit) ≡ textIn (linesOf (outcome (now (network .entry)))) (now (out .entry)) ⌝ }
+    ensures { λ _. ⌜ PlannerReply (now (network .entry)) (linesOf (outcome (now (network .entry)))) ⌝ }
 {
     let mut text: [u8; 4096] = [0; 4096];
     let count = plan_text(network, &mut text);
@@ -56,6 +59,7 @@ pub extern "C" fn tamchuwe_plan_text(network: &[u8], out: &mut [u8]) -> usize
 pub extern "C" fn tamchuwe_mark_text(input: &[u8], out: &mut [u8]) -> usize
     ensures { λ r. ⌜ r ≡ length (markLine (markFor (now (input .entry)))) ⌝ }
     ensures { λ _. ⌜ now (out .exit) ≡ textIn (markLine (markFor (now (input .entry)))) (now (out .entry)) ⌝ }
+    ensures { λ _. ⌜ JudgeReply (now (input .entry)) (markLine (markFor (now (input .entry)))) ⌝ }
 {
     let mut text: [u8; 4096] = [0; 4096];
     let length = mark_text(input, &mut text);

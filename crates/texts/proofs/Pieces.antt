@@ -7,7 +7,7 @@ use native.Mathlib.Nat.{add-assoc, zero-add}
 use native.Mathlib.Numerals.{add-one}
 use native.Mathlib.Omega.{arith}
 use lib.ListN.{length, getD, take, drop, set, length-append, length-take}
-use lib.Seq.{sets, take-suc, length-take-le}
+use lib.Seq.{sets, take-suc, length-take-le, take-at}
 use Rattle.network.proofs.Stores.{stored-behind, sets-front}
 use Rattle.texts.specs.Texts.{decimal, field, feed, lineOf, inFront, Counted}
 use Rattle.texts.proofs.Digits.{decimal-one, decimal-more, decimal-16, decimal-64}
@@ -145,3 +145,8 @@ unfolding inFront
 front-counted text buffer =
     let long = length-append text (drop (length text) buffer) in
     (omega (arith, long), omega (arith, long, length-take (length text) (text ++ drop (length text) buffer)))
+
+-- and can be taken from there
+pub text-in-front : (text buffer after : List ℕ) (r : ℕ) → r ≡ length text → after ≡ inFront text buffer → take r after ≡ text
+unfolding inFront
+text-in-front text buffer after r count put = ap (take r) put ∙ take-at text (drop (length text) buffer) r (sym count)

@@ -5,6 +5,7 @@ use native.Mathlib.Omega.{arith}
 use borrow.Author.Needs.{needs}
 use Rattle.feeding_acceptance.specs.Reading.{acceptedRead}
 use Rattle.feeding_acceptance.proofs.Reading.{read-well-formed, read-refused, read-decided}
+use Rattle.feeding_acceptance.proofs.Promises.{read-admitted}
 use Rattle.feeding_acceptance.proofs.read_accepted.Statement.{statement}
 use Rattle.feeding_acceptance.proofs.read_accepted.Tie as tie
 
@@ -29,14 +30,20 @@ after-requires c κs = search needs
 
 returns : tie.Need-returns
 returns c =
+    let args· = c .before .before .before .before .before .args in
+    let shared-slice-known· = c .before .before .before .before .shared-slice-known in
     let read-network· = c .before .before .before .read-network in
-    read-refused (read-network· .result) _ (c .enum-told .given .1) ∙ ap acceptedRead (read-network· .ensures)
+    read-admitted (args· .s .now) (λ i. omega (arith, shared-slice-known· .given i)) _
+    (read-refused (read-network· .result) _ (c .enum-told .given .1) ∙ ap acceptedRead (read-network· .ensures))
 
 returns-2 : tie.Need-returns-2
 returns-2 c =
+    let args· = c .before .before .before .before .before .before .before .args in
+    let shared-slice-known· = c .before .before .before .before .before .before .shared-slice-known in
     let read-network· = c .before .before .before .before .before .read-network in
     let accept· = c .before .accept in
-    read-decided (read-network· .result) _ (accept· .result) (c .before .before .enum-told2 .given .1) (accept· .ensures) (c .after .ensures) ∙ ap acceptedRead (read-network· .ensures)
+    read-admitted (args· .s .now) (λ i. omega (arith, shared-slice-known· .given i)) _
+    (read-decided (read-network· .result) _ (accept· .result) (c .before .before .enum-told2 .given .1) (accept· .ensures) (c .after .ensures) ∙ ap acceptedRead (read-network· .ensures))
 
 pub read-accepted-spec : {M : Type 1} → statement M
 read-accepted-spec =

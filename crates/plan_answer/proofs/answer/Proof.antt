@@ -21,7 +21,7 @@ solve-requires c κs =
     let args· = c .before .before .before .before .before .args in
     let shared-slice-known· = c .before .before .before .before .shared-slice-known in
     let read-accepted· = c .before .before .before .read-accepted in
-    read-starts (args· .s .now) (λ i. omega (arith, shared-slice-known· .given i)) (read-accepted· .result) (read-accepted· .ensures) (c .enum-told .given .1)
+    read-starts (args· .s .now) (λ i. omega (arith, shared-slice-known· .given i)) (read-accepted· .result) (read-accepted· .ensures .0) (c .enum-told .given .1)
 
 enum-known-verdict : tie.Need-enum-known-verdict
 enum-known-verdict c =
@@ -35,14 +35,14 @@ returns : tie.Need-returns
 returns c =
     let args· = c .before .before .before .before .before .before .args in
     let read-accepted· = c .before .before .before .before .read-accepted in
-    c .solve .ensures ∙ accepted-outcome (args· .s .now) (read-accepted· .result) (read-accepted· .ensures) (c .before .enum-told .given .1)
+    c .solve .ensures ∙ accepted-outcome (args· .s .now) (read-accepted· .result) (read-accepted· .ensures .0) (c .before .enum-told .given .1)
 
 returns-2 : tie.Need-returns-2
 returns-2 c =
     let args· = c .before .before .before .before .before .before .before .args in
     let read-accepted· = c .before .before .before .before .before .read-accepted in
     let empty· = c .empty in
-    refusal-outcome (args· .s .now) (read-accepted· .result) (read-accepted· .ensures) _ (c .before .before .verdict .given .1) (empty· .result) (empty· .ensures)
+    refusal-outcome (args· .s .now) (read-accepted· .result) (read-accepted· .ensures .0) _ (c .before .before .verdict .given .1) (empty· .result) (empty· .ensures)
 
 pub answer-spec : {M : Type 1} → statement M
 answer-spec =

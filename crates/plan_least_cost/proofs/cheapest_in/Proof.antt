@@ -20,7 +20,7 @@ cheapest-cost-requires c κs =
     let args· = c .before .before .before .before .args in
     let shared-slice-known· = c .before .before .before .shared-slice-known in
     let read-accepted· = c .before .before .read-accepted in
-    read-starts (args· .s .now) (λ i. omega (arith, shared-slice-known· .given i)) (read-accepted· .result) (read-accepted· .ensures) (c .enum-told .given .1)
+    read-starts (args· .s .now) (λ i. omega (arith, shared-slice-known· .given i)) (read-accepted· .result) (read-accepted· .ensures .0) (c .enum-told .given .1)
 
 enum-known-verdict : tie.Need-enum-known-verdict
 enum-known-verdict c =
@@ -32,14 +32,14 @@ returns c =
     let shared-slice-known· = c .before .before .before .before .shared-slice-known in
     let read-accepted· = c .before .before .before .read-accepted in
     let cheapest-cost· = c .cheapest-cost in
-    cheapest-bytes (args· .s .now) (read-accepted· .result) (read-admission (args· .s .now) (λ i. omega (arith, shared-slice-known· .given i)) (read-accepted· .result) (read-accepted· .ensures)) (c .before .enum-told .given .1) (cheapest-cost· .result) (cheapest-cost· .ensures)
+    cheapest-bytes (args· .s .now) (read-accepted· .result) (read-accepted· .ensures .1) (c .before .enum-told .given .1) (cheapest-cost· .result) (cheapest-cost· .ensures)
 
 returns-2 : tie.Need-returns-2
 returns-2 c =
     let args· = c .before .before .before .before .before .args in
     let shared-slice-known· = c .before .before .before .before .shared-slice-known in
     let read-accepted· = c .before .before .before .read-accepted in
-    cheapest-refused (args· .s .now) (read-accepted· .result) (read-admission (args· .s .now) (λ i. omega (arith, shared-slice-known· .given i)) (read-accepted· .result) (read-accepted· .ensures)) _ (c .before .verdict .given .1)
+    cheapest-refused (args· .s .now) (read-accepted· .result) (read-accepted· .ensures .1) _ (c .before .verdict .given .1)
 
 pub cheapest-in-spec : {M : Type 1} → statement M
 cheapest-in-spec =

@@ -1,6 +1,9 @@
 -- The numbers are those of the mark that `mark_of` gives.
 -- Assumes nothing.
-use mathlib.Core.Path.{ap, _∙_}
+use mathlib.Core.Path.{ap, _∙_, subst}
+use Rattle.judge_marks.specs.declared.Mark.{Mark}
+use Rattle.judge_line.specs.MarkLines.{markLine}
+use Rattle.judge.specs.Judging.{JudgeReply}
 use Rattle.host_values.specs.Values.{markKind, markValues}
 use borrow.Author.Needs.{needs}
 use Rattle.tamchuwe.proofs.tamchuwe_mark.Statement.{statement}
@@ -21,7 +24,13 @@ mark-kind-requires c κs =
 returns : tie.Need-returns
 returns c =
     let mark-of· = c .before .before .mark-of in
-    (c .mark-kind .ensures ∙ ap markKind (mark-of· .ensures .0), c .before .mark-values .ensures ∙ ap markValues (mark-of· .ensures .0))
+    let args· = c .before .before .before .before .args in (
+      c .mark-kind .ensures ∙ ap markKind (mark-of· .ensures .0),
+      (
+        c .before .mark-values .ensures ∙ ap markValues (mark-of· .ensures .0),
+        subst (λ (m : Mark). JudgeReply (args· .input .now) (markLine m)) (mark-of· .ensures .0) (mark-of· .ensures .1),
+      ),
+    )
 
 pub tamchuwe-mark-spec : {M : Type 1} → statement M
 tamchuwe-mark-spec =

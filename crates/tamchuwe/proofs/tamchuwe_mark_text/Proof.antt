@@ -1,6 +1,7 @@
 -- What is put is the line that `mark_text` puts in front of an array.
 -- Assumes nothing.
 use Rattle.tamchuwe.proofs.Texts.{fitted}
+use Rattle.judge.specs.Judging.{JudgeReply}
 use borrow.Author.Needs.{needs}
 use Rattle.tamchuwe.proofs.tamchuwe_mark_text.Statement.{statement}
 use Rattle.tamchuwe.proofs.tamchuwe_mark_text.Tie as tie
@@ -30,7 +31,7 @@ returns c =
     let args· = c .before .before .before .before .before .before .before .before .before .args in
     let mark-text· = c .before .before .before .before .before .mark-text in
     let put-if-it-fits· = c .before .before .put-if-it-fits in
-    fitted _ _ _ (args· .out .now) _ _ _ (mark-text· .ensures .0) (mark-text· .ensures .1 .0) (put-if-it-fits· .ensures .0) (put-if-it-fits· .ensures .1)
+    fitted (JudgeReply (args· .input .now)) _ _ _ (args· .out .now) _ _ _ (mark-text· .ensures .0) (mark-text· .ensures .1 .0) (mark-text· .ensures .1 .1 .1) (put-if-it-fits· .ensures .0) (put-if-it-fits· .ensures .1)
 
 pub tamchuwe-mark-text-spec : {M : Type 1} → statement M
 tamchuwe-mark-text-spec =

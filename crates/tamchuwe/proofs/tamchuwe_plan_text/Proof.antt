@@ -1,6 +1,7 @@
 -- What is put is the lines that `plan_text` puts in front of an array.
 -- Assumes nothing.
 use Rattle.tamchuwe.proofs.Texts.{fitted}
+use Rattle.planner.specs.Replies.{PlannerReply}
 use borrow.Author.Needs.{needs}
 use Rattle.tamchuwe.proofs.tamchuwe_plan_text.Statement.{statement}
 use Rattle.tamchuwe.proofs.tamchuwe_plan_text.Tie as tie
@@ -30,7 +31,7 @@ returns c =
     let args· = c .before .before .before .before .before .before .before .before .before .args in
     let plan-text· = c .before .before .before .before .before .plan-text in
     let put-if-it-fits· = c .before .before .put-if-it-fits in
-    fitted _ _ _ (args· .out .now) _ _ _ (plan-text· .ensures .0) (plan-text· .ensures .1 .0) (put-if-it-fits· .ensures .0) (put-if-it-fits· .ensures .1)
+    fitted (PlannerReply (args· .network .now)) _ _ _ (args· .out .now) _ _ _ (plan-text· .ensures .0) (plan-text· .ensures .1 .0) (plan-text· .ensures .1 .1 .1) (put-if-it-fits· .ensures .0) (put-if-it-fits· .ensures .1)
 
 pub tamchuwe-plan-text-spec : {M : Type 1} → statement M
 tamchuwe-plan-text-spec =

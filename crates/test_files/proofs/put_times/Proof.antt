@@ -1,4 +1,4 @@
--- `case_files::put_times` is safe and ends: the loop counts up to the number of times.
+-- Safe, and it ends: the loop counts up to the number of times.
 -- Assumes nothing.
 use Prim.Native.Nat.{_-_}
 use native.Mathlib.Omega.{arith}

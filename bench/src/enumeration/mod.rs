@@ -1,0 +1,20 @@
+//! Planner and judge by exhaustive enumeration, from bytes to printed bytes: document 01 taken word by word, and slow.
+//!
+//! It shares no code and no law with `independent`. That every sequence of operations costs at least what the printed
+//! plan does is not used but tested: the planner panics where it fails.
+mod configuration;
+mod flood;
+mod judge;
+mod network;
+mod planner;
+mod reach;
+mod reader;
+mod records;
+mod refusal;
+mod restoration;
+mod safety;
+mod start;
+mod table;
+mod text;
+
+pub use text::{mark_text, plan_text};

@@ -1,0 +1,72 @@
+//! The records of an input, from its front: rules 1 to 4, and 13.
+use super::refusal::Refusal;
+
+/// A kind of record, by its number and its length in bytes.
+#[derive(Clone, Copy)]
+pub struct Kind {
+    pub number: u64,
+    pub length: usize,
+}
+
+pub struct Record<'a> {
+    pub place: usize,
+    bytes: &'a [u8],
+}
+
+impl Record<'_> {
+    /// The two-byte field with that many such fields before it; the length and the kind come before all of them.
+    pub fn field(&self, before: usize) -> u64 {
+        number(self.bytes, 4 + 2 * before)
+    }
+
+    /// Refuses this record by a rule that it breaks.
+    pub fn refuse_if(&self, broken: bool, rule: u64) -> Result<(), Refusal> {
+        if broken {
+            return Err(Refusal { rule, place: self.place });
+        }
+        Ok(())
+    }
+}
+
+pub struct Records<'a> {
+    input: &'a [u8],
+    at: usize,
+}
+
+impl<'a> Records<'a> {
+    pub fn of(input: &'a [u8]) -> Records<'a> {
+        Records { input, at: 0 }
+    }
+
+    /// The record that is due, which must be of one of the kinds that may come here.
+    pub fn next(&mut self, may_come: &[Kind]) -> Result<Record<'a>, Refusal> {
+        let rest = &self.input[self.at..];
+        let refused = |rule| Refusal { rule, place: self.at };
+        if rest.len() < 4 {
+            return Err(refused(1));
+        }
+        let kind = may_come.iter().find(|kind| kind.number == number(rest, 2)).ok_or(refused(2))?;
+        if number(rest, 0) != kind.length as u64 {
+            return Err(refused(3));
+        }
+        if rest.len() < kind.length {
+            return Err(refused(4));
+        }
+        let record = Record { place: self.at, bytes: &rest[..kind.length] };
+        self.at += kind.length;
+        Ok(record)
+    }
+
+    /// Rule 13: nothing may follow.
+    pub fn end(self) -> Result<(), Refusal> {
+        if self.at < self.input.len() {
+            return Err(Refusal { rule: 13, place: self.at });
+        }
+        Ok(())
+    }
+}
+
+/// Two bytes, low byte first.
+fn number(bytes: &[u8], at: usize) -> u64 {
+    bytes[at] as u64 + 256 * bytes[at + 1] as u64
+}

@@ -1,1 +1,0 @@
-// Planner and judge agree: laws over both, in proofs/; no function.

@@ -1,0 +1,223 @@
+-- Refusals 1 to 13 both ways: each way of reading ends in one case of the paper's, and the paper's cases exclude one another.
+-- Assumes nothing.
+use mathlib.Core.Path.{_≡_, refl, sym, ap, subst, _∙_}
+use mathlib.Core.Bool.{Bool, true, false}
+use mathlib.Core.List.{List, [], _∷_, _++_, append-assoc}
+use Prim.Native.Nat.{ℕ, _+_}
+use native.Mathlib.Omega.{arith}
+use lib.Dec.{ltb}
+use lib.ListN.{length, replicate}
+use borrow.Author.Tests.{ltb-true, ltb-false}
+use Rattle.network.specs.declared.refusal.Rule.the-variants.{ByteAfterEnd}
+use Rattle.network.specs.declared.refusal.Refusal.{Refusal}
+use Rattle.network.specs.declared.Network.{Network}
+use Rattle.network.specs.Networks.{emptyNetwork}
+use Rattle.network.specs.Refusals.{pick}
+use Rattle.file_stages.specs.declared.Stage.{Stage}
+use Rattle.file_stages.specs.declared.Stage.the-variants.{Head, Elements, Links, End, PlanHead, Steps, PlanEnd}
+use Rattle.file_fields.specs.Fields.{word}
+use Rattle.file_network.specs.Runs.{Reading, refused, reached, readOn, asIs}
+use Rattle.file_network.specs.NetworkFiles.{withElement, withLink, networkFile}
+use Rattle.file_network.specs.Inputs.{closed, networkInput}
+use Rattle.file_network.proofs.Parts.{headRun, elementsRun, linksRun, endRun, withElements, withLinks, network-chain}
+use Rattle.file_network.proofs.Sizes.{head-read, elements-read, links-read, network-size}
+use Rattle.file_plan.specs.declared.plan.Plan.{Plan}
+use Rattle.file_plan.specs.PlanFiles.{emptyPlan, withStep, planFile}
+use Rattle.file_plan.specs.Inputs.{planInput}
+use Rattle.file_plan.proofs.Parts.{planHeadRun, stepsRun, planEndRun, withSteps, plan-chain}
+use Rattle.file_plan.proofs.Sizes.{plan-head-read, steps-read, plan-size}
+use Rattle.file_both.specs.Inputs.{paired, planBehind, bothInput}
+use Rattle.file_refusals.specs.Files.{networkStages, planStages, NetworkStands, PlanStands, PlanBreaks, FirstBroken, in-file, behind, FirstBrokenBoth, in-network, in-plan, behind-plan, KeepsNetwork}
+use Rattle.file_refusals.proofs.Files.{stand-once, break-once, stand-unbroken, Ran, ran-then, one-ran, many-ran}
+
+-- ---- the files
+
+module _ (s : List ℕ) where
+  -- the head, and the elements, in the network of the head's counts
+  pub head-ran : Ran s (word s 4) (word s 6) (Head ∷ []) 0 (headRun s)
+  head-ran = one-ran s 0 0 (word s 4) (word s 6) asIs 0 Head emptyNetwork tt
+
+  pub elements-ran : Ran s (word s 4) (word s 6) (Head ∷ replicate (word s 4) Elements) 0 (withElements s)
+  elements-ran = ran-then s (word s 4) (word s 6) (Head ∷ []) (replicate (word s 4) Elements) 0 (headRun s) (elementsRun s) head-ran more
+    where
+      more : (at : ℕ) (stage : Stage) (n : Network) → headRun s ≡ reached at stage n
+          → Ran s (word s 4) (word s 6) (replicate (word s 4) Elements) at (elementsRun s at stage n)
+      more at stage n e =
+          subst (λ (st : Stage). Ran s (word s 4) (word s 6) (replicate (word s 4) Elements) at (elementsRun s at st n)) (sym (head-read s at stage n e .stage-is))
+          (many-ran s 0 0 (word s 4) (word s 6) (withElement s) (word s 4) at Elements n refl tt)
+
+  pub links-ran : Ran s (word s 4) (word s 6) ((Head ∷ replicate (word s 4) Elements) ++ replicate (word s 6) Links) 0 (withLinks s)
+  links-ran =
+      ran-then s (word s 4) (word s 6) (Head ∷ replicate (word s 4) Elements) (replicate (word s 6) Links) 0 (withElements s) (linksRun s) elements-ran more
+    where
+      more : (at : ℕ) (stage : Stage) (n : Network) → withElements s ≡ reached at stage n
+          → Ran s (word s 4) (word s 6) (replicate (word s 6) Links) at (linksRun s at stage n)
+      more at stage n e =
+          let read = elements-read s at stage n e in
+          subst (λ (st : Stage). Ran s (word s 4) (word s 6) (replicate (word s 6) Links) at (linksRun s at st n)) (sym (read .stage-is))
+          (many-ran s (n .elements) 0 (word s 4) (word s 6) (withLink s) (word s 6) at Links n refl (read .elements-are))
+
+  pub network-ran : Ran s (word s 4) (word s 6) (networkStages (word s 4) (word s 6)) 0 (networkFile s)
+  network-ran =
+      subst (Ran s (word s 4) (word s 6) (networkStages (word s 4) (word s 6)) 0) (sym (network-chain s))
+      (subst (λ (l : List Stage). Ran s (word s 4) (word s 6) (Head ∷ l) 0 (readOn (withLinks s) (endRun s)))
+      (append-assoc (replicate (word s 4) Elements) (replicate (word s 6) Links) (End ∷ []))
+      (ran-then s (word s 4) (word s 6) ((Head ∷ replicate (word s 4) Elements) ++ replicate (word s 6) Links) (End ∷ []) 0 (withLinks s) (endRun s) links-ran more))
+    where
+      more : (at : ℕ) (stage : Stage) (n : Network) → withLinks s ≡ reached at stage n → Ran s (word s 4) (word s 6) (End ∷ []) at (endRun s at stage n)
+      more at stage n e =
+          subst (λ (st : Stage). Ran s (word s 4) (word s 6) (End ∷ []) at (endRun s at st n)) (sym (links-read s at stage n e .stage-is))
+          (one-ran s 0 0 (word s 4) (word s 6) asIs at End n tt)
+
+  -- the plan file behind a network of these counts
+  pub plan-head-ran : (head : ℕ) → Ran s (word s 4) (word s 6) (PlanHead ∷ []) head (planHeadRun s (word s 6) head)
+  plan-head-ran head = one-ran s 0 (word s 6) (word s 4) (word s 6) asIs head PlanHead emptyPlan tt
+
+  pub plan-ran : (at : ℕ) → Ran s (word s 4) (word s 6) (planStages (word s (at + 4))) at (planFile s (word s 6) at)
+  plan-ran head =
+      subst (Ran s (word s 4) (word s 6) (planStages (word s (head + 4))) head) (sym (plan-chain s (word s 6) head))
+      (ran-then s (word s 4) (word s 6) (PlanHead ∷ replicate (word s (head + 4)) Steps) (PlanEnd ∷ []) head (withSteps s (word s 6) head) (planEndRun s (word s 6) head)
+      (ran-then s (word s 4) (word s 6) (PlanHead ∷ []) (replicate (word s (head + 4)) Steps) head (planHeadRun s (word s 6) head) (stepsRun s (word s 6) head)
+      (plan-head-ran head)
+      more)
+      last)
+    where
+      more : (at : ℕ) (stage : Stage) (p : Plan) → planHeadRun s (word s 6) head ≡ reached at stage p
+          → Ran s (word s 4) (word s 6) (replicate (word s (head + 4)) Steps) at (stepsRun s (word s 6) head at stage p)
+      more at stage p e =
+          subst (λ (st : Stage). Ran s (word s 4) (word s 6) (replicate (word s (head + 4)) Steps) at (stepsRun s (word s 6) head at st p))
+          (sym (plan-head-read s (word s 6) head at stage p e .stage-is))
+          (many-ran s 0 (word s 6) (word s 4) (word s 6) (withStep s) (word s (head + 4)) at Steps p refl refl)
+
+      last : (at : ℕ) (stage : Stage) (p : Plan) → withSteps s (word s 6) head ≡ reached at stage p
+          → Ran s (word s 4) (word s 6) (PlanEnd ∷ []) at (planEndRun s (word s 6) head at stage p)
+      last at stage p e =
+          subst (λ (st : Stage). Ran s (word s 4) (word s 6) (PlanEnd ∷ []) at (planEndRun s (word s 6) head at st p))
+          (sym (steps-read s (word s 6) head at stage p e .stage-is))
+          (one-ran s 0 (word s 6) (word s 4) (word s 6) asIs at PlanEnd p tt)
+
+-- ---- one case, and no other
+
+-- the judge's input keeps rules 1 to 13
+pub record KeepsBoth (s : List ℕ) : Type 0 where
+  pub middle : ℕ
+  pub network : NetworkStands s middle
+  pub plan : PlanStands s middle (length s)
+
+first-once : (s : List ℕ) {f g : Refusal} → FirstBroken s f → FirstBroken s g → f ≡ g
+first-once s (in-file x) (in-file y) = break-once s (word s 4) (word s 6) x y
+first-once s (in-file x) (behind y _) = absurd (stand-unbroken s (word s 4) (word s 6) y x)
+first-once s (behind x _) (in-file y) = absurd (stand-unbroken s (word s 4) (word s 6) x y)
+first-once s (behind x _) (behind y _) = ap (λ (p : ℕ). record { rule = ByteAfterEnd; place = p }) (stand-once s (word s 4) (word s 6) x y)
+
+keeps-unbroken : (s : List ℕ) {f : Refusal} → KeepsNetwork s → ¬ FirstBroken s f
+keeps-unbroken s k (in-file x) = stand-unbroken s (word s 4) (word s 6) k x
+keeps-unbroken s k (behind x h) = omega (arith, h, stand-once s (word s 4) (word s 6) k x)
+
+both-once : (s : List ℕ) {f g : Refusal} → FirstBrokenBoth s f → FirstBrokenBoth s g → f ≡ g
+both-once s (in-network x) (in-network y) = break-once s (word s 4) (word s 6) x y
+both-once s (in-network x) (in-plan m y) = absurd (stand-unbroken s (word s 4) (word s 6) m x)
+both-once s (in-network x) (behind-plan m y _) = absurd (stand-unbroken s (word s 4) (word s 6) m x)
+both-once s (in-plan m x) (in-network y) = absurd (stand-unbroken s (word s 4) (word s 6) m y)
+both-once s {f} (in-plan m x) (in-plan n y) =
+    break-once s (word s 4) (word s 6) (subst (λ (at : ℕ). PlanBreaks s at f) (stand-once s (word s 4) (word s 6) m n) x) y
+both-once s {f} (in-plan m x) (behind-plan n y _) =
+    absurd (stand-unbroken s (word s 4) (word s 6) y (subst (λ (at : ℕ). PlanBreaks s at f) (stand-once s (word s 4) (word s 6) m n) x))
+both-once s (behind-plan m x _) (in-network y) = absurd (stand-unbroken s (word s 4) (word s 6) m y)
+both-once s {g = g} (behind-plan m x _) (in-plan n y) =
+    absurd (stand-unbroken s (word s 4) (word s 6) x (subst (λ (at : ℕ). PlanBreaks s at g) (stand-once s (word s 4) (word s 6) n m) y))
+both-once s (behind-plan {end = end} m x _) (behind-plan n y _) =
+    ap (λ (p : ℕ). record { rule = ByteAfterEnd; place = p })
+    (stand-once s (word s 4) (word s 6) (subst (λ (at : ℕ). PlanStands s at end) (stand-once s (word s 4) (word s 6) m n) x) y)
+
+both-unbroken : (s : List ℕ) {f : Refusal} → KeepsBoth s → ¬ FirstBrokenBoth s f
+both-unbroken s k (in-network x) = stand-unbroken s (word s 4) (word s 6) (k .network) x
+both-unbroken s {f} k (in-plan m x) =
+    stand-unbroken s (word s 4) (word s 6) (k .plan) (subst (λ (at : ℕ). PlanBreaks s at f) (stand-once s (word s 4) (word s 6) m (k .network)) x)
+both-unbroken s k (behind-plan {end = end} m x h) =
+    omega (arith, h, stand-once s (word s 4) (word s 6) (k .plan) (subst (λ (at : ℕ). PlanStands s at end) (stand-once s (word s 4) (word s 6) m (k .network)) x))
+
+-- ---- the planner's input
+
+abbrev ReadAs : List ℕ → Reading Network → Type 0
+ReadAs s (refused f) = FirstBroken s f
+ReadAs s (reached at stage n) = KeepsNetwork s
+
+network-read-as : (s : List ℕ) → ReadAs s (networkInput s)
+unfolding networkInput
+network-read-as s = go (networkFile s) refl (network-ran s)
+  where
+    go : (o : Reading Network) → networkFile s ≡ o → Ran s (word s 4) (word s 6) (networkStages (word s 4) (word s 6)) 0 o → ReadAs s (readOn o (closed s))
+    go (refused f) e x = in-file x
+    go (reached at stage n) e x = ends (ltb at (length s)) refl
+      where
+        ends : (t : Bool) → ltb at (length s) ≡ t → ReadAs s (pick t (refused (record { rule = ByteAfterEnd; place = at })) (reached at stage n))
+        ends true t = behind x (ltb-true at (length s) t)
+        ends false t =
+            let whole : at ≡ length s = omega (arith, ltb-false at (length s) t, network-size s at stage n e .inside) in
+            subst (NetworkStands s) whole x
+
+-- an input is refused with this rule and place exactly where it is the first that it breaks
+pub network-refused : (s : List ℕ) (f : Refusal) → (networkInput s ≡ refused f → FirstBroken s f) × (FirstBroken s f → networkInput s ≡ refused f)
+network-refused s f = (λ e. subst (ReadAs s) e (network-read-as s), λ b. go (networkInput s) refl (network-read-as s) b)
+  where
+    go : (o : Reading Network) → networkInput s ≡ o → ReadAs s o → FirstBroken s f → networkInput s ≡ refused f
+    go (refused g) e x b = e ∙ ap refused (first-once s x b)
+    go (reached at stage n) e x b = absurd (keeps-unbroken s x b)
+
+-- and read exactly where it breaks none
+pub network-kept : (s : List ℕ) → KeepsNetwork s → (at : ℕ) × (stage : Stage) × (n : Network) × (networkInput s ≡ reached at stage n)
+network-kept s k = go (networkInput s) refl (network-read-as s)
+  where
+    go : (o : Reading Network) → networkInput s ≡ o → ReadAs s o → (at : ℕ) × (stage : Stage) × (n : Network) × (networkInput s ≡ reached at stage n)
+    go (refused g) e x = absurd (keeps-unbroken s k x)
+    go (reached at stage n) e x = (at, stage, n, e)
+
+pub reached-keeps : (s : List ℕ) (at : ℕ) (stage : Stage) (n : Network) → networkInput s ≡ reached at stage n → KeepsNetwork s
+reached-keeps s at stage n e = subst (ReadAs s) e (network-read-as s)
+
+-- ---- the judge's input
+
+abbrev BothAs : List ℕ → Reading (Network × Plan) → Type 0
+BothAs s (refused f) = FirstBrokenBoth s f
+BothAs s (reached at stage x) = KeepsBoth s
+
+both-read-as : (s : List ℕ) → BothAs s (bothInput s)
+unfolding bothInput planBehind planInput
+both-read-as s = go (networkFile s) refl (network-ran s)
+  where
+    plan : (mid : ℕ) (n : Network) → NetworkStands s mid → (o : Reading Plan) → planFile s (word s 6) mid ≡ o
+        → Ran s (word s 4) (word s 6) (planStages (word s (mid + 4))) mid o → BothAs s (readOn (readOn o (closed s)) (paired n))
+    plan mid n m (refused f) e x = in-plan m x
+    plan mid n m (reached at stage p) e x = ends (ltb at (length s)) refl
+      where
+        ends : (t : Bool) → ltb at (length s) ≡ t
+            → BothAs s (readOn (pick t (refused (record { rule = ByteAfterEnd; place = at })) (reached at stage p)) (paired n))
+        ends true t = behind-plan m x (ltb-true at (length s) t)
+        ends false t =
+            let whole : at ≡ length s = omega (arith, ltb-false at (length s) t, plan-size s (word s 6) mid at stage p e .inside) in
+            record { middle = mid; network = m; plan = subst (PlanStands s mid) whole x }
+
+    go : (o : Reading Network) → networkFile s ≡ o → Ran s (word s 4) (word s 6) (networkStages (word s 4) (word s 6)) 0 o
+        → BothAs s (readOn o (λ at stage n. planBehind s at n))
+    go (refused f) e x = in-network x
+    go (reached mid stage n) e x =
+        subst (λ (k : ℕ). BothAs s (readOn (readOn (planFile s k mid) (closed s)) (paired n))) (sym (network-size s mid stage n e .links .links-are))
+        (plan mid n x (planFile s (word s 6) mid) refl (plan-ran s mid))
+
+pub both-refused : (s : List ℕ) (f : Refusal) → (bothInput s ≡ refused f → FirstBrokenBoth s f) × (FirstBrokenBoth s f → bothInput s ≡ refused f)
+both-refused s f = (λ e. subst (BothAs s) e (both-read-as s), λ b. go (bothInput s) refl (both-read-as s) b)
+  where
+    go : (o : Reading (Network × Plan)) → bothInput s ≡ o → BothAs s o → FirstBrokenBoth s f → bothInput s ≡ refused f
+    go (refused g) e x b = e ∙ ap refused (both-once s x b)
+    go (reached at stage n) e x b = absurd (both-unbroken s x b)
+
+pub both-kept : (s : List ℕ) → KeepsBoth s → (at : ℕ) × (stage : Stage) × (x : Network × Plan) × (bothInput s ≡ reached at stage x)
+both-kept s k = go (bothInput s) refl (both-read-as s)
+  where
+    go : (o : Reading (Network × Plan)) → bothInput s ≡ o → BothAs s o → (at : ℕ) × (stage : Stage) × (x : Network × Plan) × (bothInput s ≡ reached at stage x)
+    go (refused g) e x = absurd (both-unbroken s k x)
+    go (reached at stage n) e x = (at, stage, n, e)
+
+pub both-reached-keeps : (s : List ℕ) (at : ℕ) (stage : Stage) (x : Network × Plan) → bothInput s ≡ reached at stage x → KeepsBoth s
+both-reached-keeps s at stage x e = subst (BothAs s) e (both-read-as s)

@@ -1,0 +1,95 @@
+-- Document 01, "Files" and refusals 1 to 12, in its own words: which rules the record that is due at an offset breaks. No test of the reader is cited.
+-- Assumes nothing.
+use mathlib.Core.Path.{_≡_}
+use mathlib.Core.List.{List}
+use mathlib.Core.Logic.{_⊎_}
+use Prim.Native.Nat.{ℕ, _+_, _-_, _<_, _≤_}
+use lib.ListN.{length}
+use Rattle.network.specs.declared.refusal.Rule.{Rule}
+use Rattle.network.specs.declared.refusal.Rule.the-variants.{RecordMissing, KindOutOfPlace, WrongLength, RecordCutOff, HeadOutOfRange, UnknownFlags, BadEnds, UnknownForm, UnsuitedCost, TooManySteps, UnknownLink, UnknownState, ByteAfterEnd, NotATree, TwoSources, FaultWithSource, Overloaded, TooManyOperable, BufferTooShort}
+use Rattle.network.specs.Refusals.{ruleNumber}
+use Rattle.file_stages.specs.declared.Stage.{Stage}
+use Rattle.file_stages.specs.declared.Stage.the-variants.{Head, Elements, Links, End, PlanHead, Steps, PlanEnd, Over}
+use Rattle.file_fields.specs.Fields.{word}
+use Rattle.file_records.specs.Records.{lengthField, kindField}
+
+-- how many bytes remain at an offset
+abbrev pub remain : List ℕ → ℕ → ℕ
+remain s at = length s - at
+
+-- which kind may come: "one head, E elements, K links, one end", "one plan head, its steps, one end"
+abbrev pub MayCome : Stage → ℕ → Type 0
+MayCome Head kind = kind ≡ 1
+MayCome Elements kind = kind ≡ 2
+MayCome Links kind = kind ≡ 3
+MayCome End kind = kind ≡ 4
+MayCome PlanHead kind = kind ≡ 5
+MayCome Steps kind = kind ≡ 6
+MayCome PlanEnd kind = kind ≡ 4
+MayCome Over kind = ⊥
+
+-- "Kind 1, network head, length 8", "Kind 2, element, length 10", "Kind 3, link, length 12", "Kind 4, end, length 4", "Kind 5, plan head,
+-- length 6", "Kind 6, step, length 8"
+pub data KindLength : ℕ → ℕ → Type 0 where
+  network-head : KindLength 1 8
+  element : KindLength 2 10
+  link : KindLength 3 12
+  end : KindLength 4 4
+  plan-head : KindLength 5 6
+  step : KindLength 6 8
+
+-- "element count E (1 to 64), link count K (0 to 96)"
+pub record InRange (E K : ℕ) : Type 0 where
+  pub some : 1 ≤ E
+  pub elements-fit : E ≤ 64
+  pub links-fit : K ≤ 96
+
+-- "cost (0 for fixed, 1 to 65,535 for a switch)"; form 0 is fixed, and a number of two bytes is at most 65,535
+pub record CostSuits (form cost : ℕ) : Type 0 where
+  pub fixed : form ≡ 0 → cost ≡ 0
+  pub switch : ¬ (form ≡ 0) → 1 ≤ cost
+
+-- The record that is due at an offset and stage of the input s, in a network of E elements and K links, breaks the rule.
+abbrev pub BreaksRule : (s : List ℕ) (E K at : ℕ) → Stage → Rule → Type 0
+-- "1. Fewer than four bytes remain where a record is due."
+BreaksRule s E K at stage RecordMissing = remain s at < 4
+-- "2. The kind isn't one that may come here."
+BreaksRule s E K at stage KindOutOfPlace = ¬ MayCome stage (kindField s at)
+-- "3. The length isn't the kind's length."
+BreaksRule s E K at stage WrongLength = ¬ KindLength (kindField s at) (lengthField s at)
+-- "4. Fewer bytes remain than the length."
+BreaksRule s E K at stage RecordCutOff = remain s at < lengthField s at
+-- "5. A network head has E or K outside its range."
+BreaksRule s E K at stage HeadOutOfRange = (kindField s at ≡ 1) × ¬ InRange (word s (at + 4)) (word s (at + 6))
+-- "6. An element's flags exceed 3."
+BreaksRule s E K at stage UnknownFlags = (kindField s at ≡ 2) × (3 < word s (at + 8))
+-- "7. A link has an end of E or more, or two equal ends."
+BreaksRule s E K at stage BadEnds =
+    (kindField s at ≡ 3) × ((E ≤ word s (at + 4)) ⊎ ((E ≤ word s (at + 6)) ⊎ (word s (at + 4) ≡ word s (at + 6))))
+-- "8. A link's form exceeds 2."
+BreaksRule s E K at stage UnknownForm = (kindField s at ≡ 3) × (2 < word s (at + 8))
+-- "9. A link's cost doesn't suit its form."
+BreaksRule s E K at stage UnsuitedCost = (kindField s at ≡ 3) × ¬ CostSuits (word s (at + 8)) (word s (at + 10))
+-- "10. A plan head has more than 255 steps."
+BreaksRule s E K at stage TooManySteps = (kindField s at ≡ 5) × (255 < word s (at + 4))
+-- "11. A step's link number is K or more."
+BreaksRule s E K at stage UnknownLink = (kindField s at ≡ 6) × (K ≤ word s (at + 4))
+-- "12. A step's state exceeds 1."
+BreaksRule s E K at stage UnknownState = (kindField s at ≡ 6) × (1 < word s (at + 6))
+-- rules 13 to 19 speak of no record
+BreaksRule s E K at stage ByteAfterEnd = ⊥
+BreaksRule s E K at stage NotATree = ⊥
+BreaksRule s E K at stage TwoSources = ⊥
+BreaksRule s E K at stage FaultWithSource = ⊥
+BreaksRule s E K at stage Overloaded = ⊥
+BreaksRule s E K at stage TooManyOperable = ⊥
+BreaksRule s E K at stage BufferTooShort = ⊥
+
+-- it breaks none
+abbrev pub Keeps : (s : List ℕ) (E K at : ℕ) → Stage → Type 0
+Keeps s E K at stage = (r : Rule) → ¬ BreaksRule s E K at stage r
+
+-- "rules 1 to 12 within each record": it breaks this rule, and none of a lower number
+pub record BreaksFirst (s : List ℕ) (E K at : ℕ) (stage : Stage) (r : Rule) : Type 0 where
+  pub broken : BreaksRule s E K at stage r
+  pub lower : (q : Rule) → ruleNumber q < ruleNumber r → ¬ BreaksRule s E K at stage q

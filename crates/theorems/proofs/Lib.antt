@@ -1,0 +1,11 @@
+pub mod Texts
+pub mod Answers
+pub mod Words
+pub mod Way
+pub mod Lengths
+pub mod Submitted
+pub mod Buffers
+pub mod Exactly
+pub mod Demand1
+pub mod Demand2
+pub mod Demand3

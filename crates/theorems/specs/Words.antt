@@ -1,0 +1,45 @@
+-- Words of the demands that the theorems use: what is printed, how a text begins, and what a plan does on its way.
+-- Assumes nothing.
+use mathlib.Core.Path.{_≡_}
+use mathlib.Core.Bool.{true, not}
+use mathlib.Core.List.{List, _∷_, _++_}
+use Prim.Native.Nat.{ℕ, _<_, _≤_}
+use Rattle.feeding.specs.Networks.{Net}
+use Rattle.feeding.specs.Parts.{Joined, Sound, Live}
+use Rattle.feeding.specs.Loads.{Fed, loadAt}
+use Rattle.feeding.specs.Safety.{Tree}
+use Rattle.feeding.specs.Restoration.{Restorable, Operable}
+use Rattle.feeding.specs.Plans.{Step, run}
+use Rattle.plan_outcome.specs.Outcomes.{outcome}
+use Rattle.planner.specs.Replies.{linesOf}
+use Rattle.judge_line.specs.MarkLines.{markLine}
+use Rattle.judge.specs.Judging.{markFor}
+
+-- ---- what is printed, by the contracts of `plan_text` and `mark_text`
+
+abbrev pub planText : List ℕ → List ℕ
+planText s = linesOf (outcome s)
+
+abbrev pub markText : List ℕ → List ℕ
+markText s = markLine (markFor s)
+
+-- a text begins with a word
+abbrev pub Begins : List ℕ → List ℕ → Type 0
+Begins word text = (rest : List ℕ) × (text ≡ word ++ rest)
+
+-- "keeps every configuration on the way radial, clear of the fault and within capacity, and ends with every restorable element fed": the
+-- configurations are those after each of its first steps, from none to all of them; radial: every part is a tree, with at most one sound source
+pub record OnTheWay (net : Net) (q : List Step) : Type 0 where
+  pub radial : (front rest : List Step) → q ≡ front ++ rest → (e : ℕ) → e < net .grid .E → Tree (net .grid) (run (net .startClosed) front) e
+  pub one-source : (front rest : List Step) → q ≡ front ++ rest → (s t : ℕ) → Sound (net .grid) s → Sound (net .grid) t
+      → Joined (net .grid) (run (net .startClosed) front) t s → s ≡ t
+  pub clear : (front rest : List Step) → q ≡ front ++ rest → (e : ℕ) → e < net .grid .E → net .grid .faulty e ≡ true
+      → ¬ Live (net .grid) (run (net .startClosed) front) e
+  pub within : (front rest : List Step) → q ≡ front ++ rest → (e via : ℕ) → Fed (net .grid) (run (net .startClosed) front) e via
+      → loadAt (net .grid) (run (net .startClosed) front) e via ≤ net .grid .capacity e
+  pub fed : (e : ℕ) → e < net .grid .E → Restorable net e → Live (net .grid) (run (net .startClosed) q) e
+
+-- "Each step operates an operable switch that is not yet in the state wanted"
+pub record Operates (net : Net) (q : List Step) : Type 0 where
+  pub operable : (front rest : List Step) (s : Step) → q ≡ front ++ (s ∷ rest) → Operable net (s .link)
+  pub changes : (front rest : List Step) (s : Step) → q ≡ front ++ (s ∷ rest) → run (net .startClosed) front (s .link) ≡ not (s .want)
