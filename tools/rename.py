@@ -102,8 +102,8 @@ def named(line, old, new, rattle):
     return word(old).sub(new, line)
 
 
-def crate_names(text, rattle):
-    """The names of crates: Rattle.NAME in antt, and in Rattle's code `use NAME::` and NAME::path too."""
+def crate_names(text):
+    """The names of crates: Rattle.NAME in antt, and in Rattle's code and in comments `use NAME::` and NAME::path too."""
     def antt(m):
         return "Rattle·" + CRATES.get(m[1], m[1])
     text = re.sub(r"Rattle·([a-z_]+)(?![a-z_])", antt, text)
@@ -111,11 +111,10 @@ def crate_names(text, rattle):
     def call(m):
         return "calls-" + CRATES.get(m[1].replace("-", "_"), m[1]).replace("_", "-") + "·"
     text = re.sub(r"calls-([a-z-]+)·", call, text)
-    if rattle:
-        def path(m):
-            return CRATES.get(m[1], m[1]) + "::"
-        text = re.sub(r"(?<![\w:])([a-z_]+)::", path, text)
-    return text
+
+    def path(m):
+        return CRATES.get(m[1], m[1]) + "::"
+    return re.sub(r"(?<![\w:])([a-z_]+)::", path, text)
 
 
 def used(text, crate):
@@ -142,7 +141,7 @@ def renamed(text, crate, rattle):
             text = re.sub(rf"(Rattle.{owner}(?:·proofs)?\.proofs\.){old}(?![\w])", rf"\g<1>{new}", text)
             if crate == owner:
                 text = re.sub(rf"^(pub mod|mod) {old}$", rf"\1 {new}", text, flags=re.M)
-    return crate_names(text, rattle)
+    return crate_names(text)
 
 
 def rewrite(path, change):

@@ -1,5 +1,6 @@
 -- What the walk away from a source answers, by the definitions of `feeding`: the load, where no element on the way is above its capacity
 -- and there is room for it.
+-- Internal: no promise to a user is said by it.
 -- Assumes nothing.
 use mathlib.Core.Bool.{Bool, true, false, _||_}
 use Prim.Native.Nat.{ℕ, _+_, _/_}

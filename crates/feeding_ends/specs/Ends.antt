@@ -1,5 +1,6 @@
 -- Each element's own links, as a list made once per network: link l has the ends 2l and 2l + 1, and the ends at one element of the links in
 -- a set are chained by rising number.
+-- Internal: no promise to a user is said by it.
 -- Assumes nothing.
 use mathlib.Core.Path.{_≡_}
 use mathlib.Core.Bool.{Bool, true, false, _&&_}

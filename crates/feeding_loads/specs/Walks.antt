@@ -1,4 +1,5 @@
 -- What the walk away from a source answers, by the definitions of `feeding`, over the grid that the lent lists hold.
+-- Internal: no promise to a user is said by it.
 -- Assumes nothing.
 use mathlib.Core.Path.{_≡_}
 use mathlib.Core.Bool.{true, false}

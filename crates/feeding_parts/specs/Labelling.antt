@@ -1,4 +1,5 @@
 -- What the functions of this crate leave: labels as `feeding` defines them, the set of loops, and the highest member of a set in each part.
+-- Internal: no promise to a user is said by it.
 -- Assumes nothing.
 use mathlib.Core.Bool.{true, false, _&&_}
 use mathlib.Core.List.{List}

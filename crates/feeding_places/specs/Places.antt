@@ -1,4 +1,5 @@
 -- The places of rules 14 to 16 by labels and sets, and what the functions ask of the lists.
+-- Internal: no promise to a user is said by it.
 -- Assumes nothing.
 use mathlib.Core.Bool.{Bool, true, false, not, _&&_}
 use mathlib.Core.List.{List}

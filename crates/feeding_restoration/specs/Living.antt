@@ -1,4 +1,5 @@
 -- The live elements of a configuration whose states are lent as numbers.
+-- Internal: no promise to a user is said by it.
 -- Assumes nothing.
 use mathlib.Core.Bool.{Bool}
 use mathlib.Core.List.{List, []}

@@ -1,4 +1,5 @@
 -- A refusal as an answer, and what the lists that are lent for a check must hold.
+-- Internal: no promise to a user is said by it.
 -- Assumes nothing.
 use mathlib.Core.Path.{_≡_}
 use mathlib.Core.List.{List}

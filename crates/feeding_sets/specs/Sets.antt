@@ -1,4 +1,5 @@
 -- What the functions of this crate test, over lists of numbers.
+-- Internal: no promise to a user is said by it.
 -- Assumes nothing.
 use mathlib.Core.Bool.{Bool, not, _&&_, _||_}
 use mathlib.Core.List.{List}

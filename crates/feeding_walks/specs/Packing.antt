@@ -1,4 +1,5 @@
 -- The lists of a walk in two arrays: heads, nexts and far elements one behind the other, and loads with the capacities behind them.
+-- Internal: no promise to a user is said by it.
 -- Assumes nothing.
 use mathlib.Core.Bool.{true, false}
 use mathlib.Core.List.{List}

@@ -1,4 +1,5 @@
 -- Document 01: the judge's input, and what a refusal of it hands out.
+-- Internal: what computes; `Demand1` of `theorems` says of the readers what the paper says.
 -- Assumes nothing.
 use mathlib.Core.List.{List}
 use Prim.Native.Nat.{ℕ}

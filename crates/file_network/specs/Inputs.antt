@@ -1,4 +1,5 @@
 -- Document 01: the planner's input, rule 13, and what a refusal hands out.
+-- Internal: what computes; `Demand1` of `theorems` says of the readers what the paper says.
 -- Assumes nothing.
 use mathlib.Core.List.{List}
 use Prim.Native.Nat.{ℕ}

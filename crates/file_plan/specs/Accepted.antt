@@ -1,4 +1,5 @@
 -- Document 01, refusals 10 and 11: what they promise of a plan that is not refused.
+-- Internal: no promise to a user is said by it.
 -- Assumes nothing.
 use mathlib.Core.Path.{_≡_}
 use Prim.Native.Nat.{ℕ, _<_, _≤_}

@@ -1,4 +1,5 @@
 -- Document 01, "Files": which record kinds may come at each stage of reading, and the stage after them.
+-- Internal: what computes; `Demand1` of `theorems` says of the readers what the paper says.
 -- Assumes nothing.
 use mathlib.Core.Bool.{Bool, true, false}
 use Prim.Native.Nat.{ℕ}

@@ -1,4 +1,5 @@
 -- A configuration held as a list of states, 1 for a closed link, and what steps make of it.
+-- Internal: no promise to a user is said by it.
 -- Assumes nothing.
 use mathlib.Core.List.{List, [], _∷_}
 use Prim.Native.Nat.{ℕ}

@@ -1,4 +1,5 @@
 -- Document 01, refusals 5 to 9: what they promise of a network that is not refused.
+-- Internal: no promise to a user is said by it.
 -- Assumes nothing.
 use mathlib.Core.Path.{_≡_}
 use mathlib.Core.Bool.{Bool, true, not}

@@ -1,4 +1,5 @@
 -- What the parts hold by arrays of labels and sets, in the words of `plan_problem`.
+-- Internal: no promise to a user is said by it.
 -- Assumes nothing.
 use mathlib.Core.Bool.{_&&_}
 use mathlib.Core.List.{List}

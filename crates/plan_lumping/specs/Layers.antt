@@ -1,4 +1,5 @@
 -- What is chained and lumped before sets of switches are tried: the links that a set can leave closed, and the spurs among them, layer by layer.
+-- Internal: no promise to a user is said by it.
 -- Assumes nothing.
 use mathlib.Core.Bool.{true, false}
 use mathlib.Core.List.{List}

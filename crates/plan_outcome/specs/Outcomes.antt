@@ -1,4 +1,5 @@
 -- Document 01, what any sequence of bytes is answered: the plan with its cost and the loads after it, none, or a refusal.
+-- Internal: what computes; `PlannerReply` and `LibraryReply` of `planner` say which answers the paper asks for.
 -- Assumes nothing.
 use mathlib.Core.List.{List}
 use Prim.Native.Nat.{ℕ}

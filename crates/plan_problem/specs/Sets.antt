@@ -1,4 +1,5 @@
 -- Sets of switches as numbers, and the cheapest of a list of them: what a search computes.
+-- Internal: no promise to a user is said by it.
 -- Assumes nothing.
 use mathlib.Core.Bool.{Bool, true, false}
 use mathlib.Core.List.{List, [], _∷_, _++_}

@@ -1,5 +1,6 @@
 -- A spur: an element that is no sound source and hangs by one link alone, which is closed whatever the set of switches. What it adds to the load
 -- of the element that it hangs from is the same for every set.
+-- Internal: no promise to a user is said by it.
 -- Assumes nothing.
 use mathlib.Core.Bool.{Bool, true, false, not, _&&_}
 use mathlib.Core.List.{List}

@@ -1,4 +1,5 @@
 -- A list of switches as arrays, and the states that a set of them, written as a number, leaves.
+-- Internal: no promise to a user is said by it.
 -- Assumes nothing.
 use mathlib.Core.Path.{_≡_}
 use mathlib.Core.Bool.{true, false}

@@ -1,4 +1,5 @@
 -- How far an input is read, by what C's read answers.
+-- Internal: no promise to a user is said by it.
 -- Assumes nothing.
 use mathlib.Core.Path.{_≡_}
 use mathlib.Core.List.{List}

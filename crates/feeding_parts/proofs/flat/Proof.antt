@@ -1,4 +1,4 @@
--- `parts::flat` meets its contract: the entries below x are roots, and the entry of x is below x or x itself.
+-- `feeding_parts::flat` meets its contract: the entries below x are roots, and the entry of x is below x or x itself.
 -- Assumes nothing.
 use Prim.Native.Nat.{_≤_, _-_}
 use native.Mathlib.Omega.{arith}

@@ -1,4 +1,4 @@
--- `parts::last_of_part` meets its contract: after x elements the table is the one of the first x, by one store a marked element.
+-- `feeding_parts::last_of_part` meets its contract: after x elements the table is the one of the first x, by one store a marked element.
 -- Assumes nothing.
 use mathlib.Core.Path.{_≡_, ap, _∙_}
 use mathlib.Core.Logic.{⊎-elim}

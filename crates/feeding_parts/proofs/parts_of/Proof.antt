@@ -1,4 +1,4 @@
--- `parts::parts_of` meets its contract: after l links the roots are the labels, and the marks stand where loops closed, by one law a way of the turn.
+-- `feeding_parts::parts_of` meets its contract: after l links the roots are the labels, and the marks stand where loops closed, by one law a way of the turn.
 -- Assumes nothing.
 use mathlib.Core.Path.{refl}
 use mathlib.Core.Logic.{⊎-elim}

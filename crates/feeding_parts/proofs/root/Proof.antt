@@ -1,4 +1,4 @@
--- `parts::root` meets its contract: the entry that the walk stands at keeps the root of x, since an element and its entry have one root.
+-- `feeding_parts::root` meets its contract: the entry that the walk stands at keeps the root of x, since an element and its entry have one root.
 -- Assumes nothing.
 use mathlib.Core.Path.{_≡_, refl, sym, ap, _∙_}
 use Prim.Native.Nat.{_<_}

@@ -1,4 +1,4 @@
--- `judge_input::plan_behind` reads the plan file behind a network: both, or nothing where it was refused.
+-- `file_both::plan_behind` reads the plan file behind a network: both, or nothing where it was refused.
 -- Assumes nothing.
 use mathlib.Core.Path.{refl, ap, _∙_}
 use Rattle.file_both.specs.Inputs.{bothRead}

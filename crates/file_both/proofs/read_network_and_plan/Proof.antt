@@ -1,4 +1,4 @@
--- `judge_input::read_network_and_plan` reads the network file, then the plan file directly behind it.
+-- `file_both::read_network_and_plan` reads the network file, then the plan file directly behind it.
 -- Assumes nothing.
 use mathlib.Core.Path.{ap, _∙_}
 use Rattle.file_network.specs.NetworkFiles.{networkFile}

@@ -1,4 +1,4 @@
--- `judge_input::refused_both` hands out the empty network and the empty plan.
+-- `file_both::refused_both` hands out the empty network and the empty plan.
 -- Assumes nothing.
 use Rattle.file_both.specs.Inputs.{bothRead}
 use Rattle.file_both.proofs.refused_both.Statement.{statement}

@@ -1,4 +1,4 @@
--- `fields::bad_ends` tests what document 01 says of a link's ends.
+-- `file_fields::bad_ends` tests what document 01 says of a link's ends.
 -- Assumes nothing.
 use borrow.Author.Tests.{le-leb, lt-leb}
 use native.Mathlib.Omega.{arith}

@@ -1,4 +1,4 @@
--- `fields::cost_suits` tests what document 01 says of forms and costs.
+-- `file_fields::cost_suits` tests what document 01 says of forms and costs.
 -- Assumes nothing.
 use borrow.Author.Tests.{eq-eqb, ne-eqb}
 use Rattle.file_fields.proofs.cost_suits.Statement.{statement}

@@ -1,4 +1,4 @@
--- `fields::field_rules` finds the first broken of rules 5 to 12: the kind picks the rules that speak of it.
+-- `file_fields::field_rules` finds the first broken of rules 5 to 12: the kind picks the rules that speak of it.
 -- Assumes nothing.
 use native.Mathlib.Omega.{arith}
 use borrow.Author.Tests.{ne-eqb}

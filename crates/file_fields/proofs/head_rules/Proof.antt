@@ -1,4 +1,4 @@
--- `fields::head_rules` finds rule 5: each return by the tests that led there.
+-- `file_fields::head_rules` finds rule 5: each return by the tests that led there.
 -- Assumes nothing.
 use Rattle.file_fields.specs.Fields.{headRules}
 use native.Mathlib.Omega.{arith}

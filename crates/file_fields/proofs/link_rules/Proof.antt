@@ -1,4 +1,4 @@
--- `fields::link_rules` finds rules 7 to 9 in their order: each return by the tests that led there.
+-- `file_fields::link_rules` finds rules 7 to 9 in their order: each return by the tests that led there.
 -- Assumes nothing.
 use borrow.Author.Tests.{lt-ltb, le-ltb}
 use Rattle.file_fields.specs.Fields.{linkRules}

@@ -1,4 +1,4 @@
--- `fields::out_of_range` tests what document 01 says of E and K.
+-- `file_fields::out_of_range` tests what document 01 says of E and K.
 -- Assumes nothing.
 use borrow.Author.Tests.{eq-eqb, ne-eqb, lt-ltb, le-ltb}
 use Rattle.file_fields.proofs.out_of_range.Statement.{statement}

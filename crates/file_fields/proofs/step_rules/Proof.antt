@@ -1,4 +1,4 @@
--- `fields::step_rules` finds rule 11 before rule 12: each return by the tests that led there.
+-- `file_fields::step_rules` finds rule 11 before rule 12: each return by the tests that led there.
 -- Assumes nothing.
 use borrow.Author.Tests.{le-leb, lt-leb}
 use Rattle.file_fields.specs.Fields.{stepRules}

@@ -1,4 +1,4 @@
--- `fields::word_at` reads a number of two bytes, each below 256.
+-- `file_fields::word_at` reads a number of two bytes, each below 256.
 -- Assumes nothing.
 use mathlib.Core.Path.{refl}
 use Prim.Native.Nat.{_+_}

@@ -1,4 +1,4 @@
--- `network_file::ended` asks rule 13 of a file that was read to its end.
+-- `file_network::ended` asks rule 13 of a file that was read to its end.
 -- Assumes nothing.
 use native.Mathlib.Omega.{arith}
 use lib.ListN.{length}

@@ -1,4 +1,4 @@
--- `network_file::read_network` reads the file and asks rule 13: what was read, or nothing where it was refused.
+-- `file_network::read_network` reads the file and asks rule 13: what was read, or nothing where it was refused.
 -- Assumes nothing.
 use Rattle.file_network.specs.NetworkFiles.{networkFile}
 use Rattle.file_network.specs.Inputs.{networkInput}

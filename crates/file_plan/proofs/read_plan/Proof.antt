@@ -1,4 +1,4 @@
--- `plan_file::read_plan` reads the file and asks rule 13: what was read, or nothing where it was refused.
+-- `file_plan::read_plan` reads the file and asks rule 13: what was read, or nothing where it was refused.
 -- Assumes nothing.
 use Rattle.file_plan.specs.PlanFiles.{planFile}
 use Rattle.file_plan.specs.Inputs.{planInput}

@@ -1,4 +1,4 @@
--- `record_reader::moved_on` hands back what `due_at` finds with the offset behind it: a record that is found lies within the bytes, so the sum fits.
+-- `file_reader::moved_on` hands back what `due_at` finds with the offset behind it: a record that is found lies within the bytes, so the sum fits.
 -- Assumes nothing.
 use mathlib.Core.Path.{_≡_, refl, sym, ap, _∙_}
 use Prim.Native.Nat.{ℕ}

@@ -1,4 +1,4 @@
--- `record_reader::record_due` meets its contract: a walk of its MIR, by hand. The `Reader` that `new` returns is held in a local and passed to `due`.
+-- `file_reader::record_due` meets its contract: a walk of its MIR, by hand. The `Reader` that `new` returns is held in a local and passed to `due`.
 -- Assumes nothing.
 use mathlib.Core.Path.{_≡_, refl, ap, _∙_}
 use Prim.Native.Nat.{ℕ, _<_, _^_}

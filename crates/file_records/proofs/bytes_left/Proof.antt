@@ -1,4 +1,4 @@
--- `records::bytes_left` counts the bytes from an offset on: none where it is at the end or past it.
+-- `file_records::bytes_left` counts the bytes from an offset on: none where it is at the end or past it.
 -- Assumes nothing.
 use native.Mathlib.Omega.{arith}
 use Rattle.file_records.proofs.bytes_left.Statement.{statement}

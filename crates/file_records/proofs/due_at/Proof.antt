@@ -1,4 +1,4 @@
--- `records::due_at` finds rules 1 to 12 in their order: the record reader, then the rules of the kind.
+-- `file_records::due_at` finds rules 1 to 12 in their order: the record reader, then the rules of the kind.
 -- Assumes nothing.
 use mathlib.Core.Path.{sym, _∙_}
 use Rattle.file_records.proofs.Due.{frame-kept, due-frame-refused}

@@ -1,4 +1,4 @@
--- `records::length_of` gives each kind its length, and 0 to a number that is no kind.
+-- `file_records::length_of` gives each kind its length, and 0 to a number that is no kind.
 -- Assumes nothing.
 use borrow.Author.Tests.{ne-eqb}
 use Rattle.file_fields.specs.Fields.{lengthOf}

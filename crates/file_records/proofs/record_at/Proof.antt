@@ -1,4 +1,4 @@
--- `records::record_at` finds rules 1 to 4 in their order: each return is one law of Reader.
+-- `file_records::record_at` finds rules 1 to 4 in their order: each return is one law of Reader.
 -- Assumes nothing.
 use mathlib.Core.Path.{refl, _∙_}
 use Rattle.file_records.proofs.Reader.{missing, out-of-place, wrong-length, cut-off, whole}

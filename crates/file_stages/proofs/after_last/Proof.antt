@@ -1,4 +1,4 @@
--- `stages::after_last` moves on from a stage whose records are all read: each arm's equation on the stage, under `afterLast`.
+-- `file_stages::after_last` moves on from a stage whose records are all read: each arm's equation on the stage, under `afterLast`.
 -- Assumes nothing.
 use mathlib.Core.Path.{ap, sym}
 use Rattle.file_stages.specs.Stages.{afterLast}

@@ -1,4 +1,4 @@
--- `stages::next_stage` gives what the definition says of every stage and kind: the table's rule, and refusal past it.
+-- `file_stages::next_stage` gives what the definition says of every stage and kind: the table's rule, and refusal past it.
 -- Assumes nothing.
 use native.Mathlib.Omega.{arith}
 use borrow.Author.Needs.{needs}

@@ -1,4 +1,4 @@
--- `stages::row_of` numbers the stages: each arm's equation on the stage, under `stageNumber`.
+-- `file_stages::row_of` numbers the stages: each arm's equation on the stage, under `stageNumber`.
 -- Assumes nothing.
 use mathlib.Core.Path.{ap, sym}
 use Rattle.file_stages.specs.Stages.{stageNumber}

@@ -1,4 +1,4 @@
--- `plan_writer::plan_length` meets its contract: a count of steps is a byte, so the length fits.
+-- `file_writer::plan_length` meets its contract: a count of steps is a byte, so the length fits.
 -- Assumes nothing.
 use mathlib.Core.Path.{refl}
 use native.Mathlib.Omega.{arith}

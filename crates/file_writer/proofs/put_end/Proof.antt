@@ -1,4 +1,4 @@
--- `plan_writer::put_end` meets its contract: two numbers stored one behind the other are the stores of the record's bytes.
+-- `file_writer::put_end` meets its contract: two numbers stored one behind the other are the stores of the record's bytes.
 -- Assumes nothing.
 use mathlib.Core.Path.{refl}
 use Prim.Native.Nat.{_+_}

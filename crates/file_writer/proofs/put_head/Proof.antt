@@ -1,4 +1,4 @@
--- `plan_writer::put_head` meets its contract: three numbers stored one behind the other are the stores of the record's bytes.
+-- `file_writer::put_head` meets its contract: three numbers stored one behind the other are the stores of the record's bytes.
 -- Assumes nothing.
 use mathlib.Core.Path.{refl}
 use mathlib.Core.List.{_++_}

@@ -1,4 +1,4 @@
--- `plan_writer::put_step` meets its contract: four numbers stored one behind the other are the stores of the record's bytes.
+-- `file_writer::put_step` meets its contract: four numbers stored one behind the other are the stores of the record's bytes.
 -- Assumes nothing.
 use mathlib.Core.Path.{refl}
 use mathlib.Core.List.{_++_}

@@ -1,4 +1,4 @@
--- `plan_writer::put_steps` meets its contract: at each turn the steps so far are stored behind the plan head, and a turn stores one more behind them.
+-- `file_writer::put_steps` meets its contract: at each turn the steps so far are stored behind the plan head, and a turn stores one more behind them.
 -- Assumes nothing.
 use mathlib.Core.Path.{_≡_, refl, ap, _∙_}
 use Prim.Native.Nat.{ℕ, _+_, _-_, _≤_}

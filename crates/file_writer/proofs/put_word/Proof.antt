@@ -1,4 +1,4 @@
--- `plan_writer::put_word` meets its contract: two stores are the stores of the number's two bytes.
+-- `file_writer::put_word` meets its contract: two stores are the stores of the number's two bytes.
 -- Assumes nothing.
 use borrow.Author.Needs.{needs}
 use native.Mathlib.Numerals.{add-one}

@@ -1,4 +1,4 @@
--- `plan_writer::write_plan` meets its contract: head, steps and end are stored one behind the other, and a buffer that is too short is left alone.
+-- `file_writer::write_plan` meets its contract: head, steps and end are stored one behind the other, and a buffer that is too short is left alone.
 -- Assumes nothing.
 use mathlib.Core.Path.{ap}
 use Prim.Native.Nat.{ℕ, _-_}

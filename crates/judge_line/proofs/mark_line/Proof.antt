@@ -1,4 +1,4 @@
--- `mark_lines::mark_line` meets its contract: each arm writes its case's line, whose length is bounded by the digits of 64 bits.
+-- `judge_line::mark_line` meets its contract: each arm writes its case's line, whose length is bounded by the digits of 64 bits.
 -- Assumes nothing.
 use native.Mathlib.Omega.{arith}
 use Rattle.texts.proofs.Pieces.{field-64}

@@ -1,4 +1,4 @@
--- `plan_marks::finished` meets its contract: the states after the steps are the configuration that they lead to.
+-- `judge_score::finished` meets its contract: the states after the steps are the configuration that they lead to.
 -- Assumes nothing.
 use mathlib.Core.Path.{_∙_}
 use native.Mathlib.Omega.{arith}

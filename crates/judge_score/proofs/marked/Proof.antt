@@ -1,4 +1,4 @@
--- `plan_marks::marked` meets its contract: the first bad step decides, and where there is none the steps are good.
+-- `judge_score::marked` meets its contract: the first bad step decides, and where there is none the steps are good.
 -- Assumes nothing.
 use Rattle.judge_score.proofs.Ways.{broken-mark, good-mark, all-good}
 use borrow.Author.Needs.{needs}

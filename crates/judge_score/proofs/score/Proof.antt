@@ -1,4 +1,4 @@
--- `plan_marks::score` meets its contract: of the planner its promise alone is used, and a valid plan rules out the other two answers.
+-- `judge_score::score` meets its contract: of the planner its promise alone is used, and a valid plan rules out the other two answers.
 -- Assumes nothing.
 use native.Mathlib.Omega.{arith}
 use Rattle.plan_form.specs.Printing.{stepsOf}

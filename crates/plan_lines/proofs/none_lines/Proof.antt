@@ -1,4 +1,4 @@
--- `lines::none_lines` meets its contract: the line of NONE and the line of the loads stand in front of the buffer.
+-- `plan_lines::none_lines` meets its contract: the line of NONE and the line of the loads stand in front of the buffer.
 -- Assumes nothing.
 use native.Mathlib.Omega.{arith}
 use Rattle.plan_lines.proofs.Lines.{none-lines-put, load-length}

@@ -1,4 +1,4 @@
--- `lines::plan_lines` meets its contract: the plan's line, the steps' lines and the line of the loads stand in front of the buffer.
+-- `plan_lines::plan_lines` meets its contract: the plan's line, the steps' lines and the line of the loads stand in front of the buffer.
 -- Assumes nothing.
 use native.Mathlib.Omega.{arith}
 use Rattle.plan_lines.proofs.Lines.{plan-lines-put, load-length}

@@ -1,4 +1,4 @@
--- `lines::put_load` meets its contract: word, three fields and line feed stored one behind the other are the line of the loads.
+-- `plan_lines::put_load` meets its contract: word, three fields and line feed stored one behind the other are the line of the loads.
 -- Assumes nothing.
 use native.Mathlib.Omega.{arith}
 use Rattle.texts.proofs.Pieces.{line-three, field-64}

@@ -1,4 +1,4 @@
--- `lines::put_step` meets its contract: word, link and line feed stored one behind the other are the step's line.
+-- `plan_lines::put_step` meets its contract: word, link and line feed stored one behind the other are the step's line.
 -- Assumes nothing.
 use native.Mathlib.Omega.{arith}
 use Rattle.texts.proofs.Pieces.{line-one, field-16}

@@ -1,4 +1,4 @@
--- `lines::put_steps` meets its contract: at each turn the lines of the steps so far are stored, and a turn stores one more behind them.
+-- `plan_lines::put_steps` meets its contract: at each turn the lines of the steps so far are stored, and a turn stores one more behind them.
 -- Assumes nothing.
 use mathlib.Core.Path.{_≡_, refl, subst}
 use Prim.Native.Nat.{ℕ, _+_, _-_, _*_, _≤_}

@@ -1,4 +1,4 @@
--- `lines::put_word` meets its contract: the word that the step asks for is stored.
+-- `plan_lines::put_word` meets its contract: the word that the step asks for is stored.
 -- Assumes nothing.
 use mathlib.Core.Bool.{true, false}
 use native.Mathlib.Omega.{arith}

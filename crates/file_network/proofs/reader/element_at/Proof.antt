@@ -1,4 +1,4 @@
--- `network_file::reader::element_at` reads the fields of an element record.
+-- `file_network::reader::element_at` reads the fields of an element record.
 -- Assumes nothing.
 use native.Mathlib.Omega.{arith}
 use Rattle.file_network.specs.NetworkFiles.{elementOf}

@@ -1,4 +1,4 @@
--- `network_file::reader::elements_on` reads the elements and hands on: a refusal as it is, else the links from where the elements end.
+-- `file_network::reader::elements_on` reads the elements and hands on: a refusal as it is, else the links from where the elements end.
 -- Assumes nothing.
 use mathlib.Core.Path.{ap, _∙_}
 use native.Mathlib.Omega.{arith}

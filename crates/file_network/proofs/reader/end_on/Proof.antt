@@ -1,4 +1,4 @@
--- `network_file::reader::end_on` reads the end record: a run of one record of which nothing is kept.
+-- `file_network::reader::end_on` reads the end record: a run of one record of which nothing is kept.
 -- Assumes nothing.
 use mathlib.Core.Path.{refl, ap, sym, _∙_}
 use native.Mathlib.Omega.{arith}

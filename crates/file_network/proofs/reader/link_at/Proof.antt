@@ -1,4 +1,4 @@
--- `network_file::reader::link_at` reads the fields of a link record.
+-- `file_network::reader::link_at` reads the fields of a link record.
 -- Assumes nothing.
 use native.Mathlib.Omega.{arith}
 use Rattle.file_network.specs.NetworkFiles.{linkOf}

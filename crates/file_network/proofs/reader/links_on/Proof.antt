@@ -1,4 +1,4 @@
--- `network_file::reader::links_on` reads the links and hands on: a refusal as it is, else the end from where the links end.
+-- `file_network::reader::links_on` reads the links and hands on: a refusal as it is, else the end from where the links end.
 -- Assumes nothing.
 use mathlib.Core.Path.{ap, _∙_}
 use native.Mathlib.Omega.{arith}

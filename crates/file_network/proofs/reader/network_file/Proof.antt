@@ -1,4 +1,4 @@
--- `network_file::reader::network_file` reads the head and hands on: a refusal as it is, else the elements behind the head.
+-- `file_network::reader::network_file` reads the head and hands on: a refusal as it is, else the elements behind the head.
 -- Assumes nothing.
 use mathlib.Core.Path.{ap, sym, _∙_}
 use native.Mathlib.Omega.{arith}

@@ -1,4 +1,4 @@
--- `network_file::reader::read_elements` reads so many elements: at each turn what is left to read gives the whole outcome.
+-- `file_network::reader::read_elements` reads so many elements: at each turn what is left to read gives the whole outcome.
 -- Assumes nothing.
 use mathlib.Core.Path.{_≡_, refl, ap, sym, _∙_}
 use Prim.Native.Nat.{_+_, _-_, _<_, _≤_}

@@ -1,4 +1,4 @@
--- `network_file::reader::refused_network` hands out the empty network.
+-- `file_network::reader::refused_network` hands out the empty network.
 -- Assumes nothing.
 use Rattle.file_network.specs.Inputs.{networkPart}
 use Rattle.file_network.proofs.reader.refused_network.Statement.{statement}

@@ -1,4 +1,4 @@
--- `plan_file::reader::end_of_plan` reads the end record: a run of one record of which nothing is kept.
+-- `file_plan::reader::end_of_plan` reads the end record: a run of one record of which nothing is kept.
 -- Assumes nothing.
 use mathlib.Core.Path.{refl, ap, sym, _∙_}
 use native.Mathlib.Omega.{arith}

@@ -1,4 +1,4 @@
--- `plan_file::reader::plan_file` reads the plan head and hands on: a refusal as it is, else the steps behind the head.
+-- `file_plan::reader::plan_file` reads the plan head and hands on: a refusal as it is, else the steps behind the head.
 -- Assumes nothing.
 use mathlib.Core.Path.{ap, sym, _∙_}
 use native.Mathlib.Omega.{arith}

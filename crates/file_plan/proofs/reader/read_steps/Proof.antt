@@ -1,4 +1,4 @@
--- `plan_file::reader::read_steps` reads so many steps: at each turn what is left to read gives the whole outcome.
+-- `file_plan::reader::read_steps` reads so many steps: at each turn what is left to read gives the whole outcome.
 -- Assumes nothing.
 use mathlib.Core.Path.{_≡_, refl, ap, _∙_}
 use Prim.Native.Nat.{_+_, _-_, _≤_}

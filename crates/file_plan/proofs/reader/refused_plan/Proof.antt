@@ -1,4 +1,4 @@
--- `plan_file::reader::refused_plan` hands out the empty plan.
+-- `file_plan::reader::refused_plan` hands out the empty plan.
 -- Assumes nothing.
 use Rattle.file_plan.specs.Inputs.{planPart}
 use Rattle.file_plan.proofs.reader.refused_plan.Statement.{statement}

@@ -1,4 +1,4 @@
--- `plan_file::reader::steps_on` reads the steps and hands on: a refusal as it is, else the end from where the steps end.
+-- `file_plan::reader::steps_on` reads the steps and hands on: a refusal as it is, else the end from where the steps end.
 -- Assumes nothing.
 use mathlib.Core.Path.{ap, _∙_}
 use native.Mathlib.Omega.{arith}

@@ -1,4 +1,4 @@
--- `record_reader::Reader::at` meets its contract: a walk of its MIR, by hand. The number is read from its field; that it fits is in the struct's relation.
+-- `file_reader::Reader::at` meets its contract: a walk of its MIR, by hand. The number is read from its field; that it fits is in the struct's relation.
 -- Assumes nothing.
 use mathlib.Core.Path.{refl}
 use Prim.Native.Nat.{_<_, _^_}

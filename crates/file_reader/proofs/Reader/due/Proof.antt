@@ -1,4 +1,4 @@
--- `record_reader::Reader::due` meets its contract: a walk of its MIR, by hand. The struct is taken apart, and `due_at` is called on its bytes and its offset.
+-- `file_reader::Reader::due` meets its contract: a walk of its MIR, by hand. The struct is taken apart, and `due_at` is called on its bytes and its offset.
 -- Assumes nothing.
 use mathlib.Core.Path.{_≡_, refl}
 use Prim.Native.Nat.{ℕ, _<_, _^_}

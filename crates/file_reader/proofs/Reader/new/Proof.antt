@@ -1,4 +1,4 @@
--- `record_reader::Reader::new` meets its contract: a walk of its MIR, by hand. What the slice and the number own together is what the struct owns.
+-- `file_reader::Reader::new` meets its contract: a walk of its MIR, by hand. What the slice and the number own together is what the struct owns.
 -- Assumes nothing.
 use mathlib.Core.Path.{refl}
 use Prim.Native.Nat.{ℕ, _<_, _^_}

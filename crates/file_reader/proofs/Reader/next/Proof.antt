@@ -1,4 +1,4 @@
--- `record_reader::Reader::next` meets its contract: a walk of its MIR, by hand. The borrow is opened, `moved_on` is called on the struct's bytes and its offset, the offset that it returned is stored, and the borrow is closed at the struct with that offset.
+-- `file_reader::Reader::next` meets its contract: a walk of its MIR, by hand. The borrow is opened, `moved_on` is called on the struct's bytes and its offset, the offset that it returned is stored, and the borrow is closed at the struct with that offset.
 -- Assumes nothing.
 use mathlib.Core.Path.{_≡_, refl, sym, ap, _∙_}
 use Prim.Native.Nat.{ℕ, _<_, _^_}

@@ -1,4 +1,4 @@
--- `plan_file::plan::Plan::empty` is the empty plan, by computing.
+-- `file_plan::plan::Plan::empty` is the empty plan, by computing.
 -- Assumes nothing.
 use mathlib.Core.Path.{refl}
 use Rattle.file_plan.specs.PlanFiles.{emptyPlan}
