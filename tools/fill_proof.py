@@ -11,12 +11,14 @@
         "returns": "@count-of .ensures ∙ law (@args .net) @pre (@loop .x)",
     }, skels["fn_name"], default="search needs")'
 
-In an answer `@thing` stands for the path `c .before .. .thing` from the need's place up to the record that has the field `thing`
-(args, pre, loop, loop-test, if1, a call, enum-told, ..); one that is used twice, or is far up, is bound by a `let`.
-An answer may be a pair (names to unfold, answer). Needs without an answer get `default`.
+In an answer `@thing` stands for the path `c .before .. .thing` from the need's place up to the record that has the
+field `thing` (args, pre, loop, loop-test, if1, a call, enum-told, ..); one that is used twice, or is far up, is bound
+by a `let`. An answer may be a pair (names to unfold, answer). Needs without an answer get `default`.
 
-For functions that call one another, `fill_cycle` takes their names as they stand in the folder's name, the skeleton under that name, and answers by the
-needs' full names (`element-within-returns`); what every need is handed is named once for each function, as `element-within-claims`.
+For functions that call one another, `fill_cycle` takes their names as they stand in the folder's name (as
+element_within and link_within in crates/feeding_capacity), the skeleton under that name, and answers by the needs'
+full names (`element-within-returns`); what every need is handed is named once for each function, as
+`element-within-claims`.
 """
 import os
 import re

@@ -1,10 +1,11 @@
 #!/usr/bin/env python3
-"""gate_time.py LOG: what the gate's order costs, from the log of `(time .ci/run) > LOG 2>&1` at the project's root; gate_time.py LOG --order: crates.txt in a
-better one.
+"""gate_time.py LOG: what the gate's order costs, from the log of `(time .ci/run) > LOG 2>&1` at the project's root;
+gate_time.py LOG --order: crates.txt in a better one, all comments first, then the crates by level, families mixed.
 
-`rt` proves the crates level by level (a crate's level is one above the highest of those that it stands on), in the order of crates.txt, RT_JOBS at a time,
-and waits for each batch; then it tries the edits in the same way, crate by crate. This adds up the batches on two processors, from the seconds that the log
-names. The better order starts from falling times within each level and exchanges two crates of a level as long as that saves time."""
+`rt` proves the crates level by level (a crate's level is one above the highest of those that it stands on), in the
+order of crates.txt, RT_JOBS at a time, and waits for each batch; then it tries the edits in the same way, crate by
+crate. This adds up the batches on two processors, from the seconds that the log names. The better order starts from
+falling times within each level and exchanges two crates of a level as long as that saves time."""
 import re
 import sys
 
@@ -31,7 +32,8 @@ def batches(seconds, jobs):
 
 
 def cost(order, jobs=2):
-    return sum(batches([times[c] for c in order[l]], jobs) for l in order), batches([s for l in order for c in order[l] for s in edits[c]], jobs)
+    tried = [s for l in order for c in order[l] for s in edits[c]]
+    return sum(batches([times[c] for c in order[l]], jobs) for l in order), batches(tried, jobs)
 
 
 def better(order):
@@ -61,6 +63,7 @@ if "--order" in sys.argv:
 for what, order in [("as it is", levels), ("better", better(levels))]:
     for jobs in (2, 3, 4):
         print("%s, %d jobs: proofs %.0f s, edits %.0f s" % (what, jobs, *cost(order, jobs)))
-print(f"both processors always busy: proofs {sum(times.values()) / 2:.0f} s, edits {sum(sum(e) for e in edits.values()) / 2:.0f} s")
+proofs, tries = sum(times.values()) / PROCESSORS, sum(sum(e) for e in edits.values()) / PROCESSORS
+print(f"both processors always busy: proofs {proofs:.0f} s, edits {tries:.0f} s")
 for l in levels:
     print(l, ", ".join(f"{c} {times[c]}" for c in levels[l]))
