@@ -5,7 +5,7 @@
  *
  * What each function answers and writes is proved for every input; the contracts stand in crates/tamchuwe/src/lib.rt. Not proved, because C is
  * outside the proofs: that the caller keeps what is asked here. Each pointer leads to as many bytes (or numbers) as the length beside it, or the
- * array's size, says; none is null, also where its length is 0; numbers are aligned; and what is written overlaps no other argument.
+ * array's size, says; it may be null where its length is 0; numbers are aligned; and what is written overlaps no other argument.
  * The library keeps nothing between calls, allocates nothing and writes only where it is said, so that threads may call it side by side. Of C's
  * library it needs memcpy and memset. 64 KiB of stack suffice (measured, not proved).
  *
@@ -87,8 +87,8 @@ uint64_t tamchuwe_plan(const uint8_t *network, size_t length, uint8_t *buffer, s
 /* The lines that the program `plan` prints for the network file `network` of `length` bytes: PLAN, OPEN, CLOSE and LOAD; or NONE and LOAD; or REFUSED.
  *
  * Answers their length in bytes, the last line feed included; no 0 byte follows. Where `out`, of `room` bytes, is long enough, they fill its front,
- * and later bytes keep their values; where it is not, it keeps all its bytes. To ask for the length alone, pass any pointer that is not null and
- * room 0. */
+ * and later bytes keep their values; where it is not, it keeps all its bytes. To ask for the length alone, pass room 0; `out` may
+ * be null then. */
 size_t tamchuwe_plan_text(const uint8_t *network, size_t length, uint8_t *out, size_t room);
 
 /* Marks the plan file that stands directly behind the network file in `input` of `length` bytes.

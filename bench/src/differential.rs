@@ -22,6 +22,9 @@ type Difference = String;
 
 /// Compares on so many inputs, and on a tenth as many networks that are hard to plan.
 pub fn run(seed: u64, count: usize) -> Result<(), String> {
+    if !library::takes_null() {
+        return Err("null with length 0 is not taken as the empty input".into());
+    }
     let mut r = Random::new(seed);
     let mut counts = Counts::default();
     compare_all(&mut r, seed, count, input, &mut counts)?;

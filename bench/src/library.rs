@@ -33,3 +33,18 @@ pub fn mark(input: &[u8]) -> (u64, [u64; 2]) {
 pub fn mark_text(input: &[u8], out: &mut [u8]) -> usize {
     unsafe { tamchuwe_mark_text(input.as_ptr(), input.len(), out.as_mut_ptr(), out.len()) }
 }
+
+/// Null where the length is 0, as the header allows: the empty input is refused by rule 1 at 0, and lengths are answered.
+pub fn takes_null() -> bool {
+    let (none, out) = (std::ptr::null(), std::ptr::null_mut());
+    let (mut reply, mut mark) = ([UNWRITTEN; 5], [UNWRITTEN; 2]);
+    let refused = "REFUSED 1 0\n".len();
+    unsafe {
+        tamchuwe_plan(none, 0, out, 0, &mut reply) == 0
+            && reply == [1, 0, 0, 0, 0]
+            && tamchuwe_mark(none, 0, &mut mark) == 0
+            && mark == [1, 0]
+            && tamchuwe_plan_text(none, 0, out, 0) == refused
+            && tamchuwe_mark_text(none, 0, out, 0) == refused
+    }
+}
