@@ -1,6 +1,7 @@
 #!/usr/bin/env python3
-"""Writes the files of this folder: the networks of document 01, "Tried networks", with plans for them, and the largest network with the longest plan; and
-the standard input that the gate gives to `plan` (B) and to `mark` (B with the plan of case 8)."""
+"""Writes the files of this folder: the networks of document 01, "Tried networks", with plans for them, and the largest
+network with the longest plan; and the standard input that the gate gives to `plan` (B) and to `mark` (B with the plan
+of case 8)."""
 import os
 import struct
 
@@ -24,8 +25,9 @@ def plan(*steps):
 
 
 def largest():
-    """64 elements, 53 of them in a chain from one source and 11 dark,, 96 links, 12 operable switches (links 52 to 63); 255 steps of cost 1 that are all
-    good: close the tie of each dark element, then open and close the last of them 122 times. VALID 255 244."""
+    """64 elements, 53 of them in a chain from one source and 11 dark, 96 links, 12 operable switches (links 52 to 63);
+    255 steps of cost 1 that are all good: close the tie of each dark element, then open and close the last of them 122
+    times. VALID 255 244."""
     elements = [(1, 64, SOURCE)] + [(1, 64, 0)] * 63
     links = [(i, i + 1, CLOSED, 1) for i in range(52)]
     links += [(i, 53 + i, OPEN, 1) for i in range(11)] + [(20, 63, OPEN, 1)]

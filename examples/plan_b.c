@@ -37,7 +37,7 @@ int main(void) {
         return 1;
     if (tamchuwe_mark(input, n + 10 + 8 * values[0], mark) != TAMCHUWE_VALID)
         return 1;
-    printf("%llu steps, cost %llu; the judge: cost %llu, excess %llu\n", (unsigned long long)values[0], (unsigned long long)values[1],
-           (unsigned long long)mark[0], (unsigned long long)mark[1]);
+    printf("%llu steps, cost %llu; the judge: cost %llu, excess %llu\n", (unsigned long long)values[0],
+           (unsigned long long)values[1], (unsigned long long)mark[0], (unsigned long long)mark[1]);
     return 0;
 }

@@ -1,5 +1,5 @@
 #!/usr/bin/env python3
-"""plan_b.py LIBRARY: plans network B of document 01 by the shared library, and has the judge mark the plan that comes back."""
+"""plan_b.py LIBRARY: plans network B of document 01 by the shared library, and has the judge mark the plan."""
 import ctypes
 import os
 import sys

@@ -3,52 +3,62 @@
  *     rt check tamchuwe && rt staticlib tamchuwe        (writes target/staticlib/libtamchuwe.a)
  *     cc -Iinclude yours.c target/staticlib/libtamchuwe.a -o yours
  *
- * What each function answers and writes is proved for every input; the contracts stand in crates/tamchuwe/src/lib.rt. Not proved, because C is
- * outside the proofs: that the caller keeps what is asked here. Each pointer leads to as many bytes (or numbers) as the length beside it, or the
- * array's size, says; it may be null where its length is 0; numbers are aligned; and what is written overlaps no other argument.
- * The library keeps nothing between calls, allocates nothing and writes only where it is said, so that threads may call it side by side. Of C's
- * library it needs memcpy and memset. 64 KiB of stack suffice (measured, not proved).
+ * What each function answers and writes is proved for every input; the contracts stand in crates/tamchuwe/src/lib.rt.
+ * Not proved, because C is outside the proofs: that the caller keeps what is asked here. Each pointer leads to as
+ * many bytes (or numbers) as the length beside it, or the array's size, says; it may be null where its length is 0;
+ * numbers are aligned; and what is written overlaps no other argument. The library keeps nothing between calls,
+ * allocates nothing and writes only where it is said, so that threads may call it side by side. Of C's library it
+ * needs memcpy and memset. 64 KiB of stack suffice (measured, not proved).
  *
- * INPUT is any bytes at all. The planner expects a network file, the judge a network file with a plan file directly behind it. All numbers in
- * files are unsigned, two bytes, low byte first. A record is its length in bytes (the length field included), its kind, its fields:
+ * INPUT is any bytes at all. The planner expects a network file, the judge a network file with a plan file directly
+ * behind it. All numbers in files are unsigned, two bytes, low byte first. A record is its length in bytes (the
+ * length field included), its kind, its fields:
  *     network head   8, 1, elements (1 to 64), links (0 to 96)
  *     element       10, 2, own load, capacity, flags (1 source, 2 faulty, 3 both, 0 neither)
- *     link          12, 3, two different elements, form (0 fixed, 1 open switch, 2 closed switch), cost (0 for fixed, else 1 to 65535)
+ *     link          12, 3, two different elements, form (0 fixed, 1 open switch, 2 closed switch), cost (0 for fixed,
+ *                   else 1 to 65535)
  *     end            4, 4
  *     plan head      6, 5, steps (0 to 255)
  *     step           8, 6, link, state wanted (0 open, 1 closed: not the numbers of a link's form)
- * A network file is one head, its elements, its links, one end; a plan file one plan head, its steps, one end. Elements and links are numbered
- * from 0 in file order, steps from 1.
+ * A network file is one head, its elements, its links, one end; a plan file one plan head, its steps, one end.
+ * Elements and links are numbered from 0 in file order, steps from 1.
  *
- * REFUSALS. What breaks a rule is answered by the first that it breaks, with its number and a place. Rules 1 to 12 are asked of each record in
- * turn; their place is the offset of the record's first byte, counted from the first byte of the input, in the plan file too.
- *      1 fewer than four bytes where a record is due      10 more than 255 steps
- *      2 a kind that may not come here                    11 a step's link does not exist
- *      3 not the kind's length                            12 a step's state above 1
- *      4 fewer bytes than the length                      13 a byte behind the last end record (its offset)
- *      5 elements or links out of range                   14 at the start a part is not a tree (its lowest element)
- *      6 flags above 3                                    15 at the start two sound sources in a part (the lowest such source)
- *      7 a link's end that does not exist, or equal ends  16 at the start a fault in a part with a sound source (the lowest such fault)
- *      8 a form above 2                                   17 at the start an element loaded above its capacity (the lowest such)
- *      9 a cost that does not suit the form               18 more than 12 operable switches (their count)
- *                                                         19 the buffer is shorter than the plan file (the length needed)
+ * REFUSALS. What breaks a rule is answered by the first that it breaks, with its number and a place. Rules 1 to 12
+ * are asked of each record in turn; their place is the offset of the record's first byte, counted from the first byte
+ * of the input, in the plan file too.
+ *      1 fewer than four bytes where a record is due      8 a form above 2
+ *      2 a kind that may not come here                    9 a cost that does not suit the form
+ *      3 not the kind's length                           10 more than 255 steps
+ *      4 fewer bytes than the length                     11 a step's link does not exist
+ *      5 elements or links out of range                  12 a step's state above 1
+ *      6 flags above 3                                   13 a byte behind the last end record (its offset)
+ *      7 a link's end that does not exist, or equal ends
+ *     14 at the start a part is not a tree (its lowest element)
+ *     15 at the start two sound sources in a part (the lowest such source)
+ *     16 at the start a fault in a part with a sound source (the lowest such fault)
+ *     17 at the start an element loaded above its capacity (the lowest such)
+ *     18 more than 12 operable switches (their count)
+ *     19 the buffer is shorter than the plan file (the length needed)
  *
  * TERMS (of the customer's document 01; crates/feeding/specs/ has them as definitions).
  *     part          elements that closed links join; fixed links are always closed
  *     sound source  a source that is not faulty
  *     live          in a part with a sound source; else dark
  *     load          at a live element: its own load and all that hangs behind it, seen from the source
- *     safe          every part is a tree, none has two sound sources or a faulty element with a sound source, and no live element is loaded above its
- *                   capacity
+ *     safe          every part is a tree, none has two sound sources or a faulty element with a sound source, and no
+ *                   live element is loaded above its capacity
  *     spoiled       faulty, or joined to a faulty element by fixed links alone
- *     restorable    not spoiled, and links of any form or state join it, through unspoiled elements only, to an unspoiled source
+ *     restorable    not spoiled, and links of any form or state join it, through unspoiled elements only, to an
+ *                   unspoiled source
  *     operable      a switch with at least one end that is dark and restorable at the start
- *     valid plan    steps that each operate an operable switch into the state that it has not, through safe configurations, after which every restorable
- *                   element is live; a step costs what its switch's record states, at each operation
+ *     valid plan    steps that each operate an operable switch into the state that it has not, through safe
+ *                   configurations, after which every restorable element is live; a step costs what its switch's
+ *                   record states, at each operation
  *
- * LINES. The planner's: PLAN steps cost, then OPEN link or CLOSE link for each step, then LOAD fed dark lost; or NONE, then LOAD fed dark lost. The
- * judge's: VALID cost excess, SHORT element or BROKEN step reason. Either's, where a rule is broken: REFUSED number place. Numbers are in base ten, one
- * blank stands between fields, and each line ends with one line feed. What the numbers mean is said below, at the functions that answer them. */
+ * LINES. The planner's: PLAN steps cost, then OPEN link or CLOSE link for each step, then LOAD fed dark lost; or
+ * NONE, then LOAD fed dark lost. The judge's: VALID cost excess, SHORT element or BROKEN step reason. Either's, where
+ * a rule is broken: REFUSED number place. Numbers are in base ten, one blank stands between fields, and each line
+ * ends with one line feed. What the numbers mean is said below, at the functions that answer them. */
 #ifndef TAMCHUWE_H
 #define TAMCHUWE_H
 
@@ -68,7 +78,8 @@ enum { TAMCHUWE_PLAN = 1, TAMCHUWE_NONE = 2 };
 /* What tamchuwe_mark answers else. */
 enum { TAMCHUWE_BROKEN = 1, TAMCHUWE_SHORT = 2, TAMCHUWE_VALID = 3 };
 
-/* Lengths in bytes that suffice for every input: by rule 18 a printed plan has at most 12 steps, and no printed number has more than 20 digits. */
+/* Lengths in bytes that suffice for every input: by rule 18 a printed plan has at most 12 steps, and no printed
+ * number has more than 20 digits. */
 enum { TAMCHUWE_PLAN_FILE_LENGTH = 106, TAMCHUWE_PLAN_TEXT_LENGTH = 512, TAMCHUWE_MARK_TEXT_LENGTH = 64 };
 
 /* Plans the network file `network` of `length` bytes.
@@ -77,18 +88,19 @@ enum { TAMCHUWE_PLAN_FILE_LENGTH = 106, TAMCHUWE_PLAN_TEXT_LENGTH = 512, TAMCHUW
  *     TAMCHUWE_PLAN       steps, cost, fed, dark, lost
  *     TAMCHUWE_NONE       0, 0, fed, dark, lost
  *     TAMCHUWE_REFUSED    number, place, 0, 0, 0
- * `fed` sums the loads of the elements that are live after the plan (at the start for NONE), `dark` those of restorable elements that are not,
- * `lost` those of elements that can't be restored.
- * With TAMCHUWE_PLAN the plan file, 10 + 8 * steps bytes, fills the front of `buffer`, and later bytes keep their values. Where `buffer`, of `room`
- * bytes, is shorter than that file, the answer is TAMCHUWE_REFUSED with number 19 and the length needed. With every answer but TAMCHUWE_PLAN
- * `buffer` keeps all its bytes. */
+ * `fed` sums the loads of the elements that are live after the plan (at the start for NONE), `dark` those of
+ * restorable elements that are not, `lost` those of elements that can't be restored. With TAMCHUWE_PLAN the plan
+ * file, 10 + 8 * steps bytes, fills the front of `buffer`, and later bytes keep their values. Where `buffer`, of
+ * `room` bytes, is shorter than that file, the answer is TAMCHUWE_REFUSED with number 19 and the length needed. With
+ * every answer but TAMCHUWE_PLAN `buffer` keeps all its bytes. */
 uint64_t tamchuwe_plan(const uint8_t *network, size_t length, uint8_t *buffer, size_t room, uint64_t values[5]);
 
-/* The lines that the program `plan` prints for the network file `network` of `length` bytes: PLAN, OPEN, CLOSE and LOAD; or NONE and LOAD; or REFUSED.
+/* The lines that the program `plan` prints for the network file `network` of `length` bytes: PLAN, OPEN, CLOSE and
+ * LOAD; or NONE and LOAD; or REFUSED.
  *
- * Answers their length in bytes, the last line feed included; no 0 byte follows. Where `out`, of `room` bytes, is long enough, they fill its front,
- * and later bytes keep their values; where it is not, it keeps all its bytes. To ask for the length alone, pass room 0; `out` may
- * be null then. */
+ * Answers their length in bytes, the last line feed included; no 0 byte follows. Where `out`, of `room` bytes, is
+ * long enough, they fill its front, and later bytes keep their values; where it is not, it keeps all its bytes. To
+ * ask for the length alone, pass room 0; `out` may be null then. */
 size_t tamchuwe_plan_text(const uint8_t *network, size_t length, uint8_t *out, size_t room);
 
 /* Marks the plan file that stands directly behind the network file in `input` of `length` bytes.
@@ -96,11 +108,13 @@ size_t tamchuwe_plan_text(const uint8_t *network, size_t length, uint8_t *out, s
  * Answers the kind of mark and fills `values`:
  *     TAMCHUWE_VALID      cost, excess over the cheapest valid plan
  *     TAMCHUWE_SHORT      the lowest restorable element still dark, 0
- *     TAMCHUWE_BROKEN     the first bad step, the lowest reason that fits (1 not an operable switch, 2 already so, 3 unsafe afterwards)
+ *     TAMCHUWE_BROKEN     the first bad step, the lowest reason that fits (1 not an operable switch, 2 already so, 3
+ *                         unsafe afterwards)
  *     TAMCHUWE_REFUSED    number, place */
 uint64_t tamchuwe_mark(const uint8_t *input, size_t length, uint64_t values[2]);
 
-/* The line that the program `mark` prints for the same input: VALID, SHORT, BROKEN or REFUSED. Answer and `out` as for tamchuwe_plan_text. */
+/* The line that the program `mark` prints for the same input: VALID, SHORT, BROKEN or REFUSED. Answer and `out` as
+ * for tamchuwe_plan_text. */
 size_t tamchuwe_mark_text(const uint8_t *input, size_t length, uint8_t *out, size_t room);
 
 #ifdef __cplusplus
