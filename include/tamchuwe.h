@@ -24,8 +24,8 @@
  * Elements and links are numbered from 0 in file order, steps from 1.
  *
  * REFUSALS. What breaks a rule is answered by the first that it breaks, with its number and a place. Rules 1 to 12
- * are asked of each record in turn; their place is the offset of the record's first byte, counted from the first byte
- * of the input, in the plan file too.
+ * are asked of each record of the whole input in turn, then 13, then 14 to 18 of the network, in this order. The place
+ * of 1 to 12 is the offset of the record's first byte, counted from the first byte of the input, in the plan file too.
  *      1 fewer than four bytes where a record is due      8 a form above 2
  *      2 a kind that may not come here                    9 a cost that does not suit the form
  *      3 not the kind's length                           10 more than 255 steps
@@ -38,7 +38,7 @@
  *     16 at the start a fault in a part with a sound source (the lowest such fault)
  *     17 at the start an element loaded above its capacity (the lowest such)
  *     18 more than 12 operable switches (their count)
- *     19 the buffer is shorter than the plan file (the length needed)
+ *     19 (tamchuwe_plan alone) the buffer is shorter than the plan file (the length needed)
  *
  * TERMS (of the customer's document 01; crates/feeding/specs/ has them as definitions).
  *     part          elements that closed links join; fixed links are always closed
@@ -58,7 +58,11 @@
  * LINES. The planner's: PLAN steps cost, then OPEN link or CLOSE link for each step, then LOAD fed dark lost; or
  * NONE, then LOAD fed dark lost. The judge's: VALID cost excess, SHORT element or BROKEN step reason. Either's, where
  * a rule is broken: REFUSED number place. Numbers are in base ten, one blank stands between fields, and each line
- * ends with one line feed. What the numbers mean is said below, at the functions that answer them. */
+ * ends with one line feed. What the numbers mean is said below, at the functions that answer them.
+ *
+ * THE PRINTED PLAN operates each of its switches once: first the openings, then the closings, each by rising link
+ * number. Of several cheapest plans of that form the one is printed whose set of switches comes first: at the lowest
+ * link that only one of two sets has, the set that has it comes first. */
 #ifndef TAMCHUWE_H
 #define TAMCHUWE_H
 
@@ -88,8 +92,8 @@ enum { TAMCHUWE_PLAN_FILE_LENGTH = 106, TAMCHUWE_PLAN_TEXT_LENGTH = 512, TAMCHUW
  *     TAMCHUWE_PLAN       steps, cost, fed, dark, lost
  *     TAMCHUWE_NONE       0, 0, fed, dark, lost
  *     TAMCHUWE_REFUSED    number, place, 0, 0, 0
- * `fed` sums the loads of the elements that are live after the plan (at the start for NONE), `dark` those of
- * restorable elements that are not, `lost` those of elements that can't be restored. With TAMCHUWE_PLAN the plan
+ * `fed` sums the own loads of the elements that are live after the plan (at the start for NONE), `dark` the own loads
+ * of restorable elements that are not, `lost` those of elements that can't be restored. With TAMCHUWE_PLAN the plan
  * file, 10 + 8 * steps bytes, fills the front of `buffer`, and later bytes keep their values. Where `buffer`, of
  * `room` bytes, is shorter than that file, the answer is TAMCHUWE_REFUSED with number 19 and the length needed. With
  * every answer but TAMCHUWE_PLAN `buffer` keeps all its bytes. */
@@ -107,7 +111,7 @@ size_t tamchuwe_plan_text(const uint8_t *network, size_t length, uint8_t *out, s
  *
  * Answers the kind of mark and fills `values`:
  *     TAMCHUWE_VALID      cost, excess over the cheapest valid plan
- *     TAMCHUWE_SHORT      the lowest restorable element still dark, 0
+ *     TAMCHUWE_SHORT      no step is bad: the lowest restorable element still dark, 0
  *     TAMCHUWE_BROKEN     the first bad step, the lowest reason that fits (1 not an operable switch, 2 already so, 3
  *                         unsafe afterwards)
  *     TAMCHUWE_REFUSED    number, place */

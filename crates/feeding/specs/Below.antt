@@ -73,7 +73,7 @@ unfoldable pub Rising : List ℕ → Type 0
 Rising [] = Unit {0}
 Rising (x ∷ xs) = ((l : ℕ) → Member l xs → x < l) × Rising xs
 
--- what `lowest` says, for a property: x is the lowest number below n that has it, or x is n and none has it
+-- x is the lowest number below n that has it, or x is n and none has it
 pub record Lowest (n : ℕ) (P : ℕ → Type 0) (x : ℕ) : Type 0 where
   pub at-most : x ≤ n
   pub has : x < n → P x

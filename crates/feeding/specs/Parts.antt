@@ -8,7 +8,7 @@ use lib.Dec.{eqb, leb}
 use Rattle.feeding.specs.Below.{anyTo, tabulate}
 use Rattle.feeding.specs.Networks.{Grid, at, isIn}
 
--- "A configuration says of each switch whether it is closed"; `FixedClosed` says that fixed links are closed
+-- "A configuration says of each switch whether it is closed". "Fixed links are always closed": they are at the start (`isClosed`), and no step opens one (`Operable`)
 abbrev pub Config : Type 0
 Config = ℕ → Bool
 

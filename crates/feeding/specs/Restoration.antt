@@ -1,4 +1,4 @@
--- Document 01, "Feeding": spoiled, restorable and operable; and "The printed lines": fed, dark and lost.
+-- Document 01, "Feeding": spoiled, restorable and operable; and "Printed lines": fed, dark and lost.
 -- Assumes nothing.
 use mathlib.Core.Path.{_≡_}
 use mathlib.Core.Bool.{Bool, true, false, not, _&&_, _||_}
@@ -78,7 +78,7 @@ operables net = those (net .grid .K) (operable? net)
 unfoldable pub restored? : Net → Config → Bool
 restored? net c = allTo (net .grid .E) (λ e. imp (restorable? net e) (live? (net .grid) c e))
 
--- "Fed sums the loads of elements live, dark those of restorable elements then dark, lost those of elements that aren't restorable."
+-- "Fed sums the loads of elements live after the plan .., dark those of restorable elements then dark, lost those of elements that aren't restorable."
 unfoldable pub fedLoad : Net → Config → ℕ
 fedLoad net c = sumTo (net .grid .E) (λ e. gate (live? (net .grid) c e) (net .grid .load e))
 

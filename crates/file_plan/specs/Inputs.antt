@@ -1,5 +1,5 @@
 -- Document 01: a plan file as input, and what a refusal hands out.
--- Internal: what computes; `Demand1` of `theorems` says of the readers what the paper says.
+-- Internal: what `read_plan` computes; of a plan file behind its network file `Demand1` of `theorems` says what the paper says.
 -- Assumes nothing.
 use mathlib.Core.List.{List}
 use Prim.Native.Nat.{ℕ}

@@ -1,5 +1,5 @@
 -- "The record reader views the file as lent bytes plus an offset": what it finds, and the offset at which it then stands.
--- Internal: what computes; `Demand1` of `theorems` says of the readers what the paper says.
+-- Internal: what computes; of the record that is due `Demand1` of `theorems` says what the paper says.
 -- Assumes nothing.
 use Prim.Native.Nat.{ℕ, _+_}
 use Rattle.file_records.specs.declared.Found.{Found}

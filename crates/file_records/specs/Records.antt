@@ -53,7 +53,7 @@ foundBy s at stage Kept =
     Record (kindField s at) (lengthField s at) (named (nextStage stage (kindField s at)) stage)
 foundBy s at stage (Broken r) = Refused (record { rule = r; place = at })
 
--- the record reader: rules 1 to 4
+-- the record at an offset by rules 1 to 4
 unfoldable pub recordAt : List ℕ → ℕ → Stage → Found
 recordAt s at stage = foundBy s at stage (firstBroken (frameRules s at stage))
 

@@ -50,7 +50,7 @@ fn refused(rule: Rule, place: usize) -> Found
     Found::Refused(Refusal { rule, place })
 }
 
-// The record reader: rules 1 to 4 in their order.
+// The record at an offset: rules 1 to 4 in their order.
 pub fn record_at(s: &[u8], at: usize, stage: Stage) -> Found
     ensures { λ r. ⌜ r ≡ recordAt (now (s .entry)) at stage ⌝ }
 {

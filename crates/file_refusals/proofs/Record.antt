@@ -18,13 +18,15 @@ use Rattle.file_stages.specs.declared.Stage.{Stage}
 use Rattle.file_stages.specs.declared.Stage.the-variants.{Head, Elements, Links, End, PlanHead, Steps, PlanEnd, Over}
 use Rattle.file_records.specs.declared.Found.{Found}
 use Rattle.file_records.specs.declared.Found.the-variants.{Record, Refused}
+use Rattle.file_stages.specs.declared.Next.{Next}
+use Rattle.file_stages.specs.declared.Next.the-variants.{Go, Refused as Next·Refused}
 use Rattle.file_stages.specs.Stages.{goesTo, nextStage}
 use Rattle.network.specs.Refusals.{ruleNumber, Check, check, pick, firstBroken}
 use Rattle.network.specs.Accepted.{suits}
 use Rattle.file_fields.specs.Fields.{word, lengthOf, either, only, headRules, elementRules, linkRules, planHeadRules, stepRules, fieldRules}
-use Rattle.file_records.specs.Records.{lengthField, kindField, isRefused, frameRules, recordRules, dueAt}
-use Rattle.file_records.proofs.Due.{first-append, either-false, elseFirst, due-kept, due-refused}
-use Rattle.file_refusals.specs.Breaking.{MayCome, KindLength, network-head, element, link, end, plan-head, step, InRange, CostSuits, BreaksRule, Keeps, BreaksFirst}
+use Rattle.file_records.specs.Records.{lengthField, kindField, isRefused, named, frameRules, recordRules, dueAt}
+use Rattle.file_records.proofs.Due.{first-append, either-false, elseFirst, goes-one-way, due-kept, due-refused}
+use Rattle.file_refusals.specs.Breaking.{ComesNext, behind-head, behind-element, behind-link, behind-end, behind-plan-head, behind-step, behind-plan-end, MayCome, KindLength, network-head, element, link, end, plan-head, step, InRange, CostSuits, BreaksRule, Keeps, BreaksFirst}
 
 -- ---- one rule for each number
 
@@ -134,53 +136,56 @@ module _ (P : Rule → Type 0) where
 
 -- ---- what the tests of rules 2, 3, 5, 7 and 9 say
 
-leads-out : (t : Bool) (stage : Stage) → isRefused (goesTo t stage) ≡ false → t ≡ true
-leads-out true stage e = refl
-leads-out false stage e = let z : _≡_ {A = ℕ} 0 1 = cc in absurd (omega arith)
+-- the table that is computed is the paper's
+comes-next : (stage : Stage) (kind : ℕ) (next : Stage) → nextStage stage kind ≡ Go next → ComesNext stage kind next
+comes-next Head kind next h = let g = goes-one-way Head kind next h in rw (g .0, g .1) behind-head
+comes-next Elements kind next h = let g = goes-one-way Elements kind next h in rw (g .0, g .1) behind-element
+comes-next Links kind next h = let g = goes-one-way Links kind next h in rw (g .0, g .1) behind-link
+comes-next End kind next h = let g = goes-one-way End kind next h in rw (g .0, g .1) behind-end
+comes-next PlanHead kind next h = let g = goes-one-way PlanHead kind next h in rw (g .0, g .1) behind-plan-head
+comes-next Steps kind next h = let g = goes-one-way Steps kind next h in rw (g .0, g .1) behind-step
+comes-next PlanEnd kind next h = let g = goes-one-way PlanEnd kind next h in rw (g .0, g .1) behind-plan-end
+comes-next Over kind next h = absurd (goes-one-way Over kind next h .0)
 
-leads-in : (t : Bool) (stage : Stage) → isRefused (goesTo t stage) ≡ true → t ≡ false
-leads-in true stage e = let z : _≡_ {A = ℕ} 0 1 = cc in absurd (omega arith)
-leads-in false stage e = refl
+in-table : {stage : Stage} {kind : ℕ} {next : Stage} → ComesNext stage kind next → nextStage stage kind ≡ Go next
+unfolding nextStage
+in-table behind-head = refl
+in-table behind-element = refl
+in-table behind-link = refl
+in-table behind-end = refl
+in-table behind-plan-head = refl
+in-table behind-step = refl
+in-table behind-plan-end = refl
 
-one-out : (kind k : ℕ) (stage : Stage) → isRefused (goesTo (eqb kind k) stage) ≡ false → kind ≡ k
-one-out kind k stage e = eqb-true kind k (leads-out (eqb kind k) stage e)
-
-one-in : (kind k : ℕ) (stage : Stage) → isRefused (goesTo (eqb kind k) stage) ≡ true → ¬ (kind ≡ k)
-one-in kind k stage e = eqb-false kind k (leads-in (eqb kind k) stage e)
+comes-once : {stage : Stage} {kind : ℕ} {a b : Stage} → ComesNext stage kind a → ComesNext stage kind b → a ≡ b
+comes-once {stage} p q = ap (λ (n : Next). named n stage) (sym (in-table p) ∙ in-table q)
 
 pub may-come : (stage : Stage) (kind : ℕ) → isRefused (nextStage stage kind) ≡ false → MayCome stage kind
-unfolding nextStage
-may-come Head kind e = one-out kind 1 Elements e
-may-come Elements kind e = one-out kind 2 Elements e
-may-come Links kind e = one-out kind 3 Links e
-may-come End kind e = one-out kind 4 PlanHead e
-may-come PlanHead kind e = one-out kind 5 Steps e
-may-come Steps kind e = one-out kind 6 Steps e
-may-come PlanEnd kind e = one-out kind 4 Over e
-may-come Over kind e = let z : _≡_ {A = ℕ} 0 1 = cc in absurd (omega arith)
+may-come stage kind e = go (nextStage stage kind) refl e
+  where
+    go : (n : Next) → nextStage stage kind ≡ n → isRefused n ≡ false → MayCome stage kind
+    go (Go next) h e = (next, comes-next stage kind next h)
+    go Next·Refused h e = let z : _≡_ {A = ℕ} 0 1 = cc in absurd (omega arith)
 
 pub may-not-come : (stage : Stage) (kind : ℕ) → isRefused (nextStage stage kind) ≡ true → ¬ MayCome stage kind
-unfolding nextStage
-may-not-come Head kind e = one-in kind 1 Elements e
-may-not-come Elements kind e = one-in kind 2 Elements e
-may-not-come Links kind e = one-in kind 3 Links e
-may-not-come End kind e = one-in kind 4 PlanHead e
-may-not-come PlanHead kind e = one-in kind 5 Steps e
-may-not-come Steps kind e = one-in kind 6 Steps e
-may-not-come PlanEnd kind e = one-in kind 4 Over e
-may-not-come Over kind e = λ x. x
+may-not-come stage kind e (next, c) =
+    let same : false ≡ true = ap isRefused (sym (in-table c)) ∙ e in
+    let z : _≡_ {A = ℕ} 0 1 = cc in
+    absurd (omega arith)
 
 -- a kind that may come has a length, the one of `lengthOf`
 comes-long : (stage : Stage) (kind : ℕ) → MayCome stage kind → KindLength kind (lengthOf kind)
 unfolding lengthOf
-comes-long Head kind e = rw e network-head
-comes-long Elements kind e = rw e element
-comes-long Links kind e = rw e link
-comes-long End kind e = rw e end
-comes-long PlanHead kind e = rw e plan-head
-comes-long Steps kind e = rw e step
-comes-long PlanEnd kind e = rw e end
-comes-long Over kind e = absurd e
+comes-long stage kind (next, c) = go c
+  where
+    go : {stage : Stage} {kind : ℕ} {next : Stage} → ComesNext stage kind next → KindLength kind (lengthOf kind)
+    go behind-head = network-head
+    go behind-element = element
+    go behind-link = link
+    go behind-end = end
+    go behind-plan-head = plan-head
+    go behind-step = step
+    go behind-plan-end = end
 
 length-only : {kind long : ℕ} → KindLength kind long → long ≡ lengthOf kind
 unfolding lengthOf
@@ -440,18 +445,26 @@ module _ (s : List ℕ) (E K at : ℕ) (stage : Stage) where
   due-keeps e = subst Verdicts (due-kept s E K at stage e .kept) rules-judged
 
   -- and both ways: the contract of `record_due`, `Reader::due` and `Reader::next` in the paper's words
-  pub record-refused : (r : Rule) → (dueAt s E K at stage ≡ Refused (record { rule = r; place = at })) ↔ BreaksFirst s E K at stage r
-  record-refused r = (λ e. due-breaks (record { rule = r; place = at }) e .0, λ b. go b (dueAt s E K at stage) refl)
+  pub record-refused : (f : Refusal) → (dueAt s E K at stage ≡ Refused f) ↔ (BreaksFirst s E K at stage (f .rule) × (f .place ≡ at))
+  record-refused f = (due-breaks f, λ b. go b (dueAt s E K at stage) refl)
     where
-      go : BreaksFirst s E K at stage r → (d : Found) → dueAt s E K at stage ≡ d → dueAt s E K at stage ≡ Refused (record { rule = r; place = at })
-      go b (Record kind long next) e = absurd (keeps-unbroken r (due-keeps e) b)
-      go b (Refused f) e =
-          let d = due-breaks f e in
-          e ∙ (λ i. Refused (record { rule = breaks-once (f .rule) r (d .0) b i; place = d .1 i }))
+      go : BreaksFirst s E K at stage (f .rule) × (f .place ≡ at) → (d : Found) → dueAt s E K at stage ≡ d → dueAt s E K at stage ≡ Refused f
+      go b (Record kind long next) e = absurd (keeps-unbroken (f .rule) (due-keeps e) (b .0))
+      go b (Refused g) e =
+          let d = due-breaks g e in
+          e ∙ (λ i. Refused (record { rule = breaks-once (g .rule) (f .rule) (d .0) (b .0) i; place = (d .1 ∙ sym (b .1)) i }))
 
-  pub record-kept : ((kind : ℕ) × (long : ℕ) × (next : Stage) × (dueAt s E K at stage ≡ Record kind long next)) ↔ Keeps s E K at stage
-  record-kept = (λ x. due-keeps (x .3), λ k. go k (dueAt s E K at stage) refl)
+  -- what is found: the fields of the record that is due, and the stage that follows
+  pub record-found : (kind long : ℕ) (next : Stage)
+      → (dueAt s E K at stage ≡ Record kind long next) ↔ (Keeps s E K at stage × (kind ≡ kindField s at) × (long ≡ lengthField s at) × ComesNext stage kind next)
+  record-found kind long next = (
+    λ e. let k = due-kept s E K at stage e in (due-keeps e, k .framed .kind-is, k .framed .long-is, comes-next stage kind next (k .framed .goes)),
+    λ x. go x (dueAt s E K at stage) refl,
+  )
     where
-      go : Keeps s E K at stage → (d : Found) → dueAt s E K at stage ≡ d → (kind : ℕ) × (long : ℕ) × (next : Stage) × (dueAt s E K at stage ≡ Record kind long next)
-      go k (Record kind long next) e = (kind, long, next, e)
-      go k (Refused f) e = absurd (keeps-unbroken (f .rule) k (due-breaks f e .0))
+      go : Keeps s E K at stage × (kind ≡ kindField s at) × (long ≡ lengthField s at) × ComesNext stage kind next
+          → (d : Found) → dueAt s E K at stage ≡ d → dueAt s E K at stage ≡ Record kind long next
+      go (keeps, k, l, f) (Refused r) e = absurd (keeps-unbroken (r .rule) keeps (due-breaks r e .0))
+      go (keeps, k, l, f) (Record kind′ long′ next′) e =
+          let d = due-kept s E K at stage e in
+          e ∙ (λ i. Record ((d .framed .kind-is ∙ sym k) i) ((d .framed .long-is ∙ sym l) i) (comes-once (subst (λ (x : ℕ). ComesNext stage x next′) (d .framed .kind-is ∙ sym k) (comes-next stage kind′ next′ (d .framed .goes))) f i))

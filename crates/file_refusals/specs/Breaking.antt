@@ -17,19 +17,20 @@ use Rattle.file_records.specs.Records.{lengthField, kindField}
 abbrev pub remain : List ℕ → ℕ → ℕ
 remain s at = length s - at
 
--- which kind may come: "one head, E elements, K links, one end", "one plan head, its steps, one end"
-abbrev pub MayCome : Stage → ℕ → Type 0
-MayCome Head kind = kind ≡ 1
-MayCome Elements kind = kind ≡ 2
-MayCome Links kind = kind ≡ 3
-MayCome End kind = kind ≡ 4
-MayCome PlanHead kind = kind ≡ 5
-MayCome Steps kind = kind ≡ 6
-MayCome PlanEnd kind = kind ≡ 4
-MayCome Over kind = ⊥
+-- "One table says, for each stage of reading and each kind, which stage comes next."; E, K and the steps of the heads end a stage (`networkStages`)
+pub data ComesNext : (stage : Stage) (kind : ℕ) (next : Stage) → Type 0 where
+  behind-head : ComesNext Head 1 Elements
+  behind-element : ComesNext Elements 2 Elements
+  behind-link : ComesNext Links 3 Links
+  behind-end : ComesNext End 4 PlanHead
+  behind-plan-head : ComesNext PlanHead 5 Steps
+  behind-step : ComesNext Steps 6 Steps
+  behind-plan-end : ComesNext PlanEnd 4 Over
 
--- "Kind 1, network head, length 8", "Kind 2, element, length 10", "Kind 3, link, length 12", "Kind 4, end, length 4", "Kind 5, plan head,
--- length 6", "Kind 6, step, length 8"
+abbrev pub MayCome : Stage → ℕ → Type 0
+MayCome stage kind = (next : Stage) × ComesNext stage kind next
+
+-- "Kind 1, network head, length 8", "Kind 2, element, length 10", "Kind 3, link, length 12", and so on
 pub data KindLength : ℕ → ℕ → Type 0 where
   network-head : KindLength 1 8
   element : KindLength 2 10

@@ -34,8 +34,7 @@ pub record Wide (n : Network) : Type 0 where
   pub form-long : length (n .form) ≡ 96
   pub cost-long : length (n .cost) ≡ 96
 
--- The network file at the front of s states the network n: its head the counts, the records behind it the elements and links by number; where it states
--- nothing, n has zeros.
+-- The network file at the front of s states n: its head the counts, the records behind it elements and links by number; n has zeros elsewhere.
 pub record States (s : List ℕ) (n : Network) : Type 0 where
   pub elements : n .elements ≡ word s 4
   pub links : n .links ≡ word s 6

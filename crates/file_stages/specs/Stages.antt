@@ -1,5 +1,5 @@
 -- Document 01, "Files": which record kinds may come at each stage of reading, and the stage after them.
--- Internal: what computes; `Demand1` of `theorems` says of the readers what the paper says.
+-- Internal: what computes; `ComesNext` of `file_refusals` is the paper's table.
 -- Assumes nothing.
 use mathlib.Core.Bool.{Bool, true, false}
 use Prim.Native.Nat.{ℕ}
@@ -20,7 +20,7 @@ stageNumber Steps = 5
 stageNumber PlanEnd = 6
 stageNumber Over = 7
 
--- a kind that may come goesTo to a stage; any other is refusal 2
+-- a kind that may come leads to a stage; any other is refusal 2
 abbrev pub goesTo : Bool → Stage → Next
 goesTo true s = Go s
 goesTo false s = Refused

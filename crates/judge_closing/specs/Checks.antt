@@ -1,5 +1,5 @@
 -- What the test of a closing computes over lists of numbers, and what it asks of them.
--- Internal: what the arrays hold; `closes-is` of examining says that over the lists of a network it is `closes?` of local_safety.
+-- Internal: what the arrays hold; `closes-is` of `judge_examine` says that over the lists of a network it is `closes?` of `judge_safe_steps`.
 -- Assumes nothing.
 use mathlib.Core.Path.{_≡_}
 use mathlib.Core.Bool.{Bool, _||_}

@@ -1,5 +1,5 @@
 -- One step by the parts that it touches, over lists of numbers: what `examine_step` asks and answers.
--- Internal: what the arrays hold; what a reader must believe is `stepsExamined` of marking, which `examine` promises.
+-- Internal: what the arrays hold; `examine` promises `stepsExamined` of `judge_marks`.
 -- Assumes nothing.
 use mathlib.Core.Path.{_≡_}
 use mathlib.Core.Bool.{Bool, true, false}
@@ -9,7 +9,7 @@ use lib.Dec.{eqb}
 use Rattle.feeding.specs.Networks.{at}
 use Rattle.judge_closing.specs.Checks.{Closable}
 
--- `keepsSafe?` of local_safety by the number of the state wanted: an opening keeps what is safe, a closing where its test says so
+-- `keepsSafe?` of `judge_safe_steps` by the number of the state wanted: an opening keeps what is safe, a closing where its test says so
 unfoldable pub keptSafe : (want : ℕ) (closing : Bool) → Bool
 keptSafe want closing = elim (eqb want 1) [ true ↦ closing | false ↦ true ]
 

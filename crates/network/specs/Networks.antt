@@ -1,5 +1,5 @@
--- Document 01, "The limits belong to the network record as named constants": the empty network, 64 elements and 96 links
--- wide, and a network with one element or one link more. "Elements and links are numbered from 0 in file order."
+-- Document 01, "Files": the empty network, 64 elements and 96 links wide, and a network with one element or one link more. "Elements and
+-- links are numbered from 0 in file order, steps from 1."
 -- Assumes nothing.
 use Prim.Native.Nat.{_+_}
 use lib.ListN.{replicate, set}

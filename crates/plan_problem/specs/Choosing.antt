@@ -1,4 +1,5 @@
--- Document 01, "The printed plan": which set of switches is operated; and demands 2 and 3 for a plan. Operable set, goal and cost are parameters.
+-- Document 01, "The printed plan": which set of switches is operated; and demands 2 and 3 for a plan. Names that end in By are for any
+-- operable set, goal and cost; document 01's case stands below them.
 -- Assumes nothing.
 use mathlib.Core.Path.{_≡_}
 use mathlib.Core.Bool.{Bool, true, false}

@@ -9,7 +9,7 @@ use lib.ListN.{length, take, drop}
 use Rattle.network.specs.declared.refusal.Refusal.{Refusal}
 use Rattle.network.specs.Refusals.{ruleNumber}
 
--- "Printed numbers are in base ten without leading zeros". The depth d only bounds the recursion: with d = n it is never reached.
+-- "Printed numbers are in base ten without leading zeros". The depth d only bounds the recursion: with d = n it suffices.
 unfoldable pub digits : ℕ → ℕ → List ℕ
 digits zero n = (48 + n) ∷ []
 digits (suc d) n = elim (ltb n 10) [ true ↦ (48 + n) ∷ [] | false ↦ digits d (n / 10) ++ ((48 + n % 10) ∷ []) ]

@@ -1,4 +1,4 @@
--- The texts that are printed are the paper's replies, and there is one for each input: from the base's promises and their exactness, case by case.
+-- The texts that are printed are the paper's replies, and there is one for each input: from what an outcome and a mark promise, case by case.
 -- Assumes nothing.
 use mathlib.Core.Path.{_≡_, sym, ap, ap₂, subst, _∙_}
 use mathlib.Core.List.{List}

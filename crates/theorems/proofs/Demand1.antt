@@ -1,5 +1,5 @@
 -- Demand 1, sentence by sentence, for every sequence of bytes s. By the contracts of `plan_text` and `mark_text` they leave `planText s` and `markText s` in front
--- of the lent array and answer its length, and `plan` and `mark` put that on standard output; `plan_into` answers `replyFor (outcome s) before` and leaves
+-- of the lent array and answer its length, which `plan` and `mark` hand to standard output (README.md says what is proved of that and what is read); `plan_into` answers `replyFor (outcome s) before` and leaves
 -- `bufferFor (outcome s) before` in the buffer that held `before`.
 -- Assumes nothing.
 use mathlib.Core.Path.{_≡_, sym, ap, _∙_}
@@ -15,7 +15,7 @@ use Rattle.network.specs.declared.refusal.Rule.{Rule}
 use Rattle.network.specs.declared.refusal.Answer.the-variants.{Accepted, Refused}
 use Rattle.file_stages.specs.declared.Stage.{Stage}
 use Rattle.file_records.specs.declared.Found.the-variants as Found·
-use Rattle.file_records.specs.Records.{dueAt}
+use Rattle.file_records.specs.Records.{kindField, lengthField, dueAt}
 use Rattle.file_network.specs.Inputs.{networkInput, networkRead}
 use Rattle.file_plan.specs.declared.plan.Plan.{Plan}
 use Rattle.file_plan.specs.PlanFiles.{emptyPlan}
@@ -31,10 +31,11 @@ use Rattle.planner.proofs.Promises as Promises
 use Rattle.judge_line.specs.MarkLines.{markLine}
 use Rattle.judge.proofs.Marking.{mark-decided, judge-replies}
 use Rattle.feeding_acceptance.proofs.Promises.{network-once, first-rule-once, accepted-unrefused}
-use Rattle.file_refusals.specs.Breaking.{BreaksFirst}
+use Rattle.file_refusals.specs.Breaking.{BreaksFirst, Keeps, ComesNext}
 use Rattle.file_refusals.specs.Files.{FirstBroken, FirstBrokenBoth}
 use Rattle.file_refusals.specs.Stated.{NetworkOf, BothOf}
 use Rattle.file_refusals.proofs.Record.{record-refused}
+use Rattle.file_refusals.proofs.Record as Record
 use Rattle.file_refusals.proofs.Reading.{network-handed-out, network-read, both-handed-out, both-read}
 use Rattle.theorems.proofs.Answers as Answers
 use Rattle.theorems.proofs.Exactly as Exactly
@@ -85,9 +86,15 @@ module _ (s : List ℕ) where
   pub both-broken : (f : Refusal) → (bothRead (bothInput s) ≡ record { answer = Refused f; net = emptyNetwork; plan = emptyPlan }) ↔ FirstBrokenBoth s f
   both-broken = both-handed-out s
 
-  -- and the record reader, by the contract of `record_due`
-  pub record-broken : (E K at : ℕ) (stage : Stage) (r : Rule) → (dueAt s E K at stage ≡ Found·.Refused (record { rule = r; place = at })) ↔ BreaksFirst s E K at stage r
+  -- and the record reader, by the contract of `record_due`: at an offset where a record is due, the first rule that it breaks, with the offset as its
+  -- place, or its kind and length, and the stage that follows
+  pub record-broken : (E K at : ℕ) (stage : Stage) (f : Refusal)
+      → (dueAt s E K at stage ≡ Found·.Refused f) ↔ (BreaksFirst s E K at stage (f .rule) × (f .place ≡ at))
   record-broken = record-refused s
+
+  pub record-found : (E K at : ℕ) (stage : Stage) (kind long : ℕ) (next : Stage) → (dueAt s E K at stage ≡ Found·.Record kind long next)
+      ↔ (Keeps s E K at stage × (kind ≡ kindField s at) × (long ≡ lengthField s at) × ComesNext stage kind next)
+  record-found = Record.record-found s
 
 -- "Accepted input has at most 3,854 bytes, so the first 4,096 bytes decide."
 pub network-long : (s : List ℕ) (n : Network) → AcceptedNetwork s n → length s ≤ 1804
@@ -131,7 +138,8 @@ module _ (s : List ℕ) (bytes : Bytes s) where
   pub judge-not-both : (n : Network) (q : List Step) (f : Refusal) → AcceptedPlan s n q → ¬ FirstRuleBoth s f
   judge-not-both = Exactly.both-accepted-unrefused s bytes
 
--- ---- "A refusal writes nothing to a lent buffer."
+-- ---- "A refusal writes nothing to a lent buffer.": the buffer that is lent for the plan file. (An array that carries the reply itself carries the refusal
+-- too, since that is a reply: docs/DECISIONS.md, 5.)
 
 module _ (s : List ℕ) (bytes : Bytes s) (before : List ℕ) where
   pub refusal-unwritten : (f : Refusal) → replyFor (outcome s) before ≡ Reply·.Refused f → bufferFor (outcome s) before ≡ before

@@ -3,10 +3,16 @@
 use mathlib.Core.Path.{_≡_}
 use mathlib.Core.List.{List, _++_}
 use mathlib.Core.Logic.{_↔_}
-use Prim.Native.Nat.{ℕ, _≤_}
+use Prim.Native.Nat.{ℕ, _+_, _≤_, _<_}
 use lib.ListN.{length, take}
 use Rattle.network.specs.declared.Network.{Network}
+use Rattle.feeding.specs.Below.{gate, sumTo}
 use Rattle.feeding.specs.Networks.{netOf}
+use Rattle.feeding.specs.Parts.{Config, Live, far}
+use Rattle.feeding.specs.Loads.{leads, Fed, loadAt}
+use Rattle.feeding.specs.Safety.{Safe}
+use Rattle.feeding.proofs.Load.{fed-exactly-once, safe-load}
+use Rattle.feeding.proofs.Views.{formed-net}
 use Rattle.feeding.specs.Plans.{Step, ValidPlan, run}
 use Rattle.plan_problem.specs.Choosing.{NoPlan, NoneCheaper}
 use Rattle.plan_sums.specs.declared.Sums.{Sums}
@@ -19,7 +25,6 @@ use Rattle.plan_outcome.specs.Outcomes.{outcome}
 use Rattle.plan_sums.specs.Sums.{LoadsIn}
 use Rattle.planner.specs.Replies.{bufferFor}
 use Rattle.feeding_acceptance.proofs.Promises.{network-starts}
-use Rattle.theorems.proofs.Answers as Answers
 use Rattle.theorems.proofs.Words.{printed-promises}
 use Rattle.theorems.proofs.Way.{valid-way, valid-operates, way-valid}
 use Rattle.theorems.proofs.Exactly as Exactly
@@ -53,6 +58,19 @@ module _ (s : List ℕ) (bytes : Bytes s) where
 
   pub none-loads : (n : Network) → AcceptedNetwork s n → (l : Sums) → planText s ≡ noneLines l → LoadsIn (netOf n) (netOf n .startClosed) l
   none-loads = Exactly.none-loads s bytes
+
+  -- "The load at a live element is its own load plus what each closed link leading away from the source carries; a link carries the load at its far
+  -- element": in a safe configuration a live element is fed over exactly one link, a source over none, and its load is this
+  pub fed-once : (n : Network) → AcceptedNetwork s n → (c : Config) → Safe (netOf n .grid) c → (e : ℕ) → e < netOf n .grid .E → Live (netOf n .grid) c e
+      → (via : ℕ) × Fed (netOf n .grid) c e via × ((w : ℕ) → Fed (netOf n .grid) c e w → w ≡ via)
+  fed-once n a c safe e k live =
+      let f = fed-exactly-once (netOf n .grid) (formed-net n (network-starts s bytes n a .0)) c safe e k live in
+      (f .via, f .fed, f .only)
+
+  pub load-is : (n : Network) → AcceptedNetwork s n → (c : Config) → Safe (netOf n .grid) c → (e via : ℕ) → Fed (netOf n .grid) c e via
+      → loadAt (netOf n .grid) c e via
+      ≡ netOf n .grid .load e + sumTo (netOf n .grid .K) (λ l. gate (leads (netOf n .grid) c e via l) (loadAt (netOf n .grid) c (far (netOf n .grid) l e) l))
+  load-is n a c safe e via f = safe-load (netOf n .grid) (formed-net n (network-starts s bytes n a .0)) c safe f
 
   -- ---- "A printed plan keeps every configuration on the way radial, clear of the fault and within capacity, and ends with every restorable element fed;"
 

@@ -1,4 +1,4 @@
--- Refusals, NONE, PLAN and VALID exactly, as texts: from the words that begin them, and the base's exactness.
+-- Refusals, NONE, PLAN and VALID exactly, as texts: from the words that begin them, and from what an outcome and a mark are exactly.
 -- Assumes nothing.
 use mathlib.Core.Path.{_≡_, refl, sym, ap, subst, _∙_}
 use mathlib.Core.List.{List, _++_, append-assoc}
