@@ -3,7 +3,11 @@
 
 A folder is a repository (with crates/ and crates.txt), or one crate, as each prototype is. Files are changed in place; in a
 repository the folders of crates move too. Running it twice changes nothing the second time.
+
+For one crate, run at the repository's root, names that stand in another module by now are taken from there, where just one
+module has them or one of the same name, and its line for crates.txt is printed: the crates that it names.
 """
+import glob
 import os
 import re
 import sys
@@ -163,6 +167,52 @@ def crate_folder(folder, crate):
             os.rename(os.path.join(proofs, old + ".antt"), os.path.join(proofs, new + ".antt"))
 
 
+def exported():
+    """name: the modules of the repository that export it, as (crate, specs or proofs, module)."""
+    found = {}
+    for top in ("specs", "proofs"):
+        for file in sorted(glob.glob(f"crates/*/{top}/*.antt")):
+            _, crate, _, name = file.split(os.sep)
+            text = open(file, encoding="utf-8").read()
+            for m in re.finditer(r"^ *(?:unfoldable |abbrev )?pub (?:record |data )?(\S+)", text, re.M):
+                found.setdefault(m[1], set()).add((crate, top, name[:-5]))
+            for cases in re.findall(r"^pub data [^\n]*where\n((?:  [^\n]*\n)+)", text, re.M):
+                for case in re.findall(r"^  ([^\s-]\S*) :", cases, re.M):
+                    found.setdefault(case, set()).add((crate, top, name[:-5]))
+    return found
+
+
+def taken_anew(text, index):
+    """The `use` lines of other crates' modules, each name from the module that has it now."""
+    def line(m):
+        crate, top, module, names = m[2], m[3], m[4], [x.strip() for x in m[5].split(",")]
+        moved = {}
+        for name in names:
+            homes = index.get(name.split(" as ")[0], set())
+            home = (crate, top, module)
+            alike = [h for h in homes if h[1:] == (top, module)] or list(homes)
+            if os.path.isdir(os.path.join("crates", crate)) and home not in homes and len(alike) == 1:
+                home = alike[0]
+            moved.setdefault(home, []).append(name)
+        return "\n".join(f"{m[1]}use Rattle.{c}.{t}.{n}.{{{', '.join(x)}}}{m[6]}" for (c, t, n), x in moved.items())
+    return re.sub(r"^((?:ghost )?)use Rattle·([a-z_]+)\.(specs|proofs)\.(\w+)\.\{([^}]*)\}(;?)$", line, text, flags=re.M)
+
+
+def prototype(folder):
+    index = exported()
+    named_crates = set()
+    for top, _, files in os.walk(folder):
+        for name in files:
+            if name.endswith((".rt", ".antt")):
+                path = os.path.join(top, name)
+                rewrite(path, lambda text: taken_anew(text, index))
+                text = open(path, encoding="utf-8").read()
+                named_crates |= set(re.findall(r"Rattle·([a-z_]+)", text)) | set(re.findall(r"(?<![\w:])([a-z_]+)::", text))
+    crate = os.path.basename(os.path.normpath(folder))
+    below = sorted(c for c in named_crates if c != crate and (os.path.isdir(os.path.join("crates", c)) or c in ("io", "libc", "os")))
+    print(f"{CRATES.get(crate, crate)}: {' '.join(below)}")
+
+
 def listed(text):
     """crates.txt, and the line of it that a prototype's README begins with."""
     def line(m):
@@ -175,6 +225,7 @@ def main():
         crates = os.path.join(folder, "crates")
         if not os.path.isdir(crates):
             crate_folder(folder, os.path.basename(os.path.normpath(folder)))
+            prototype(folder)
             readme = os.path.join(folder, "README.md")
             if os.path.exists(readme):
                 rewrite(readme, listed)
