@@ -1,10 +1,10 @@
 -- The test of safety tells the safe configurations, and so do rules 14 to 17: each place is the lowest that breaks its rule, and E where none does.
 -- Assumes nothing.
-use Prim.Native.Nat.{ℕ, _≤_, _<_}
+use Prim.Native.Nat.{ℕ, _<_}
 use mathlib.Core.Path.{_≡_, refl, sym, _∙_}
 use mathlib.Core.Bool.{Bool, true, false, not, false≢true}
 use lib.Dec.{eqb, ltb}
-use borrow.Author.Tests.{eqb-true, eqb-false, ltb-true, ltb-false, not-true}
+use borrow.Author.Tests.{eqb-true, eqb-false, not-true}
 use native.Mathlib.Omega.{arith}
 use Rattle.network.specs.declared.refusal.Rule.{Rule}
 use Rattle.network.specs.declared.refusal.Rule.the-variants.{NotATree, TwoSources, FaultWithSource, Overloaded}
@@ -12,14 +12,13 @@ use Rattle.network.specs.declared.refusal.Answer.{Answer}
 use Rattle.network.specs.declared.refusal.Answer.the-variants.{Accepted, Refused}
 use Rattle.feeding.specs.Acceptance.{brokenAt, safety}
 use Rattle.feeding.specs.Below.{Lowest}
-use Rattle.feeding.specs.Loads.{Fed, loadAt, lowestOver}
+use Rattle.feeding.specs.Loads.{lowestOver}
 use Rattle.feeding.specs.Networks.{Grid, Formed}
 use Rattle.feeding.specs.Parts.{Config, Joined, Sound}
 use Rattle.feeding.specs.Safety.{Tree, Paired, FaultLive, Safe, looped?, treePlace, pairPlace, faultPlace, safe?}
 use Rattle.feeding.proofs.Forest.{safe-bridges}
-use Rattle.feeding.proofs.Load.{fed-in}
 use Rattle.feeding.proofs.Lows.{lowest-is, lowest-map, lowest-all, none-below, none-place}
-use Rattle.feeding.proofs.Overloads.{over-lowest}
+use Rattle.feeding.proofs.Overloads.{over-lowest, none-over}
 use Rattle.feeding.proofs.Tests.{paired?-in, paired?-out, faultLive?-in, faultLive?-out}
 use Rattle.feeding.proofs.Trees.{looped-in, looped-out}
 
@@ -60,7 +59,7 @@ module _ (g : Grid) (formed : Formed g) (c : Config) where
     tree = trees;
     one = one;
     clear = λ e k f l. none-below (g .E) _ _ (fault-place g formed c) (r .fault) e k (record { faulty = f; live = l });
-    within = within;
+    within = none-over g formed c (safe-bridges g formed c trees) (r .load);
   }
     where
       trees : (e : ℕ) → e < g .E → Tree g c e
@@ -74,21 +73,13 @@ module _ (g : Grid) (formed : Formed g) (c : Config) where
           go false u = absurd (none-below (g .E) _ _ (pair-place g formed c) (r .pair) s (p .below)
               (record { other = t; sound = p; other-sound = q; joined = j; apart = eqb-false s t u }))
 
-      within : (e via : ℕ) → Fed g c e via → loadAt g c e via ≤ g .capacity e
-      within e via f = go (ltb (g .capacity e) (loadAt g c e via)) refl
-        where
-          go : (u : Bool) → ltb (g .capacity e) (loadAt g c e via) ≡ u → loadAt g c e via ≤ g .capacity e
-          go true u = absurd (none-below (g .E) _ _ (over-lowest g formed c (safe-bridges g formed c trees)) (r .load) e (fed-in g c formed f)
-              (record { via = via; fed = f; above = ltb-true _ _ u }))
-          go false u = ltb-false _ _ u
-
   pub safe-kept : Safe g c → Kept g c
   safe-kept s = record {
     tree = none-place (g .E) _ _ (tree-place g formed c) (λ e k no. no (s .tree e k));
     pair = none-place (g .E) _ _ (pair-place g formed c) (λ e k r. r .apart (s .one e (r .other) (r .sound) (r .other-sound) (r .joined)));
     fault = none-place (g .E) _ _ (fault-place g formed c) (λ e k r. s .clear e k (r .faulty) (r .live));
     load = none-place (g .E) _ _ (over-lowest g formed c (safe-bridges g formed c (s .tree)))
-        (λ e k r. let h : loadAt g c e (r .via) ≤ g .capacity e = s .within e (r .via) (r .fed) in omega arith);
+        (λ e k r. r .above (s .within e (r .via) (r .fed)));
   }
 
 -- ---- the test of safety, and the answer by rules 14 to 17

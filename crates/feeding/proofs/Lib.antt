@@ -2,6 +2,7 @@ pub mod Answers
 pub mod Balance
 pub mod Below
 pub mod Bits
+pub mod Capacities
 pub mod Decided
 pub mod Forest
 pub mod Hanging
@@ -14,6 +15,7 @@ pub mod Overloads
 pub mod Printed
 pub mod States
 pub mod Sums
+pub mod Tasks
 pub mod Tests
 pub mod Trees
 pub mod Validity

@@ -4,7 +4,7 @@ use Prim.Native.Nat.{ℕ, zero, suc, _*_, _≤_}
 use mathlib.Core.Path.{_≡_}
 use mathlib.Core.Bool.{true}
 use native.Mathlib.Omega.{arith}
-use Rattle.feeding.specs.Loads.{Fed, at-source, onward, leads, elementLoad, linkLoad}
+use Rattle.feeding.specs.Loads.{Fed, at-source, onward, leads, elementLoad, linkLoad, Within}
 use Rattle.feeding.specs.Networks.{Grid}
 use Rattle.feeding.specs.Parts.{Opened, Live, Config, Joined, here, over, far}
 use Rattle.feeding.specs.Safety.{Safe, without}
@@ -48,10 +48,14 @@ pub live-mono : (g : Grid) (c′ c : Config) → Opened c′ c → (e : ℕ) →
 live-mono g c′ c sub e r = record { source = r .source; sound = r .sound; joined = joined-mono g c′ c sub (r .joined) }
 
 -- the theorem: a configuration that closes no link which a safe one leaves open is safe
+-- opening keeps loads within capacity
+pub opened-within : (g : Grid) (c′ c : Config) → Opened c′ c → Within g c → Within g c′
+opened-within g c′ c sub within e via f = omega (arith, elementLoad-mono g c′ c sub (2 * g .E) e via, within e via (fed-mono g c′ c sub f))
+
 pub opening-safe : (g : Grid) (c′ c : Config) → Opened c′ c → Safe g c → Safe g c′
 opening-safe g c′ c sub s = record {
   tree = λ e k l kl h i j. s .tree e k l kl (sub l h) (joined-mono g c′ c sub i) (joined-mono g (without c′ l) (without c l) (without-mono c′ c l sub) j);
   one = λ a b p q j. s .one a b p q (joined-mono g c′ c sub j);
   clear = λ e k q r. s .clear e k q (live-mono g c′ c sub e r);
-  within = λ e via f. omega (arith, elementLoad-mono g c′ c sub (2 * g .E) e via, s .within e via (fed-mono g c′ c sub f));
+  within = opened-within g c′ c sub (s .within);
 }

@@ -4,31 +4,42 @@ use Prim.Native.Nat.{ℕ, zero, suc, _*_, _≤_, _<_, min}
 use mathlib.Core.Path.{_≡_, refl, sym, ap, _∙_, subst}
 use mathlib.Core.Logic.{_⊎_, inl, inr}
 use mathlib.Core.Bool.{Bool, true, false}
-use lib.Dec.{ltb, leb}
-use borrow.Author.Tests.{ltb-true, ltb-false, leb-false, lt-leb}
+use lib.Dec.{ltb}
+use borrow.Author.Tests.{ltb-true, ltb-false, leb-true, leb-false}
 use native.Mathlib.Omega.{arith}
 use Rattle.feeding.specs.Below.{leastTo, Lowest}
-use Rattle.feeding.specs.Loads.{leads, Fed, at-source, onward, elementLoad, loadAt, Overloaded, above, elementOver, lowestOver}
+use Rattle.feeding.specs.Loads.{leads, Fed, at-source, onward, elementLoad, loadAt, Bears, bears?, Within, Overloaded, above, elementOver, lowestOver}
 use Rattle.feeding.specs.Networks.{Grid, Formed}
 use Rattle.feeding.specs.Parts.{Config, far, Sound, sound?}
 use Rattle.feeding.proofs.Forest.{Bridges}
 use Rattle.feeding.proofs.Load.{same-load, fed-came, fed-in}
-use Rattle.feeding.proofs.Lows.{leastTo-top, leastTo-le, leastTo-or}
+use Rattle.feeding.proofs.Lows.{leastTo-top, leastTo-le, leastTo-or, none-below}
 use Rattle.feeding.proofs.Tests.{sound?-in, sound?-out}
 use Rattle.feeding.proofs.Walk.{room, room-le, room-shrinks, room-pos}
 
-above-out : (g : Grid) (e x : ℕ) → above g e x < g .E → (g .capacity e < x) × (above g e x ≡ e)
-unfolding above
-above-out g e x = go (leb x (g .capacity e)) refl
-  where
-    go : (t : Bool) → leb x (g .capacity e) ≡ t → elim t [ true ↦ g .E | false ↦ e ] < g .E
-        → (g .capacity e < x) × (elim t [ true ↦ g .E | false ↦ e ] ≡ e)
-    go true t h = absurd (omega arith)
-    go false t h = (leb-false x (g .capacity e) t, refl)
+-- the load test tells whether an element bears a load
+pub bears?-out : (g : Grid) (e x : ℕ) → bears? g e x ≡ false → ¬ Bears g e x
+bears?-out g e x t h = let more = leb-false x (g .capacity e) t in omega arith
 
-pub above-in : (g : Grid) (e x : ℕ) → g .capacity e < x → above g e x ≡ e
+pub bears?-none : (g : Grid) (e x : ℕ) → ¬ Bears g e x → bears? g e x ≡ false
+bears?-none g e x above-it = go (bears? g e x) refl
+  where
+    go : (t : Bool) → bears? g e x ≡ t → t ≡ false
+    go true t = absurd (above-it (leb-true x (g .capacity e) t))
+    go false t = refl
+
+above-out : (g : Grid) (e x : ℕ) → above g e x < g .E → (¬ Bears g e x) × (above g e x ≡ e)
 unfolding above
-above-in g e x h = rw (lt-leb x (g .capacity e) h, above)
+above-out g e x = go (bears? g e x) refl
+  where
+    go : (t : Bool) → bears? g e x ≡ t → elim t [ true ↦ g .E | false ↦ e ] < g .E
+        → (¬ Bears g e x) × (elim t [ true ↦ g .E | false ↦ e ] ≡ e)
+    go true t h = absurd (omega arith)
+    go false t h = (bears?-out g e x t, refl)
+
+pub above-in : (g : Grid) (e x : ℕ) → ¬ Bears g e x → above g e x ≡ e
+unfolding above
+above-in g e x h = rw (bears?-none g e x h, above)
 
 -- the lower of two numbers is one of them
 min-or : (a b : ℕ) → (min a b ≡ a) ⊎ (min a b ≡ b)
@@ -77,9 +88,9 @@ module _ (g : Grid) (formed : Formed g) (c : Config) (bridges : Bridges g c) whe
       rest = leastTo (g .K) (g .E) (beyond g c d e via)
 
       here-over : elementOver g c (suc (suc d)) e via ≡ own → Overloaded g c (elementOver g c (suc (suc d)) e via)
-      here-over q = subst (Overloaded g c) (sym (q ∙ r .1)) (record { via = via; fed = f; above = rw (load-is (suc (suc d)) e via f h) at (r .0) })
+      here-over q = subst (Overloaded g c) (sym (q ∙ r .1)) (record { via = via; fed = f; above = subst (λ x. ¬ Bears g e x) (load-is (suc (suc d)) e via f h) (r .0) })
         where
-          r : (g .capacity e < elementLoad g c (suc (suc d)) e via) × (above g e (elementLoad g c (suc (suc d)) e via) ≡ e)
+          r : (¬ Bears g e (elementLoad g c (suc (suc d)) e via)) × (above g e (elementLoad g c (suc (suc d)) e via) ≡ e)
           r = above-out g e (elementLoad g c (suc (suc d)) e via) (subst (λ z. z < g .E) q k)
 
       onward-over : ((l : ℕ) → Found d (far g l e) l) → elementOver g c (suc (suc d)) e via ≡ rest
@@ -145,7 +156,7 @@ module _ (g : Grid) (formed : Formed g) (c : Config) (bridges : Bridges g c) whe
         arith,
         m .low,
         own-low (m .depth) e (o .via),
-        above-in g e (elementLoad g c (m .depth) e (o .via)) (omega (arith, load-is (m .depth) e (o .via) (o .fed) (m .enough), o .above)),
+        above-in g e (elementLoad g c (m .depth) e (o .via)) (subst (λ x. ¬ Bears g e x) (sym (load-is (m .depth) e (o .via) (o .fed) (m .enough))) (o .above)),
       )
 
   low-over : lowestOver g c < g .E → Overloaded g c (lowestOver g c)
@@ -174,3 +185,12 @@ module _ (g : Grid) (formed : Formed g) (c : Config) (bridges : Bridges g c) whe
     has = low-over;
     none-lower = λ y k o. omega (arith, low-enough y o);
   }
+
+-- no element is overloaded where the lowest place is none
+pub none-over : (g : Grid) (formed : Formed g) (c : Config) (bridges : Bridges g c) → ltb (lowestOver g c) (g .E) ≡ false → Within g c
+none-over g formed c bridges none e via f = go (bears? g e (loadAt g c e via)) refl
+  where
+    go : (t : Bool) → bears? g e (loadAt g c e via) ≡ t → Bears g e (loadAt g c e via)
+    go true t = leb-true _ _ t
+    go false t = absurd (none-below (g .E) _ _ (over-lowest g formed c bridges) none e (fed-in g c formed f)
+        (record { via = via; fed = f; above = bears?-out g e _ t }))

@@ -12,6 +12,7 @@ use Rattle.feeding.specs.Networks.{Net}
 use Rattle.feeding.specs.Parts.{Config}
 use Rattle.feeding.specs.Plans.{Step, put, run, Good, Valid, costOf, operations, sweep, printedForm, differ, flip, changed, setCost, Pricing, Matched}
 use Rattle.feeding.specs.Safety.{Safe}
+use Rattle.feeding.specs.Tasks.{Task, Lawful}
 use Rattle.feeding.proofs.Below.{and-left, and-right, ltb-suc, gate-le}
 use Rattle.feeding.proofs.Sums.{sumTo-add, sumTo-none, sumTo-at, sumTo-mono, sumTo-ext}
 use Rattle.feeding.proofs.Opening.{opening-safe}
@@ -299,27 +300,26 @@ module _ (net : Net) (D : ℕ → Bool) (inside : (l : ℕ) → D l ≡ true →
       ∙ sumTo-ext (net .grid .K) _ _ (λ l _. split-cost (D l) (net .startClosed l) (net .cost l))
 
 -- the cost of document 01
-unfoldable pub plain : (net : Net) → Pricing net
-plain net = record { list = costOf net; set = setCost net; at-most = changed-cost net; printed = printed-cost net }
+pub plain : (net : Net) → Pricing net (costOf net) (setCost net)
+plain net = record { at-most = changed-cost net; printed = printed-cost net }
 
--- ---- the central theorem: for any goal, any set of operable switches and any pricing, a valid list of steps, however it goes, is matched by the
+-- ---- the central theorem: for any task, that is any goal, any set of operable switches and any pricing, a valid list of steps, however it goes, is matched by the
 -- printed form of the switches that it leaves changed, which is valid, operates each of them once and no other, and costs no more
 
-pub matched : (net : Net) (op : ℕ → Type 0) (goal : Config → Type 0) (price : Pricing net)
-    → ((l : ℕ) → op l → l < net .grid .K) → Safe (net .grid) (net .startClosed)
-    → (q : List Step) → Valid net op goal q → Matched net op goal price q
-matched net op goal price inside safe q v = record {
+pub matched : (net : Net) (t : Task net) → Lawful net t → Safe (net .grid) (net .startClosed)
+    → (q : List Step) → Valid net (t .operable) (t .goal) q → Matched net (t .operable) (t .goal) (t .cost) q
+matched net task laws safe q v = record {
   valid = record {
-    good = printed-good net (changed net q) below op (changed-operable net op q (v .good)) safe
-        (rw (flip-changed net q) (run-safe net op (net .startClosed) q safe (v .good)));
+    good = printed-good net (changed net q) below (task .operable) (changed-operable net (task .operable) q (v .good)) safe
+        (rw (flip-changed net q) (run-safe net (task .operable) (net .startClosed) q safe (v .good)));
     meets = rw (printed-run net (changed net q) below, flip-changed net q) (v .meets);
   };
   once = λ l. printed-once net (changed net q) l ∙ counted l (changed net q l) refl;
-  cheaper = omega (arith, price .printed (changed net q) below, price .at-most q);
+  cheaper = omega (arith, laws .pricing .printed (changed net q) below, laws .pricing .at-most q);
 }
   where
     below : (l : ℕ) → changed net q l ≡ true → l < net .grid .K
-    below l d = inside l (changed-operable net op q (v .good) l d)
+    below l d = laws .inside l (changed-operable net (task .operable) q (v .good) l d)
 
     counted : (l : ℕ) (t : Bool) → changed net q l ≡ t → gate (t && ltb l (net .grid .K)) 1 ≡ gate t 1
     counted l true d = rw (lt-ltb l (net .grid .K) (below l d))

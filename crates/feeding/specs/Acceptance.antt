@@ -15,29 +15,30 @@ use Rattle.feeding.specs.Below.{Lowest}
 use Rattle.feeding.specs.Loads.{lowestOver}
 use Rattle.feeding.specs.Loads as Loads
 use Rattle.feeding.specs.Safety.{Tree, Paired, FaultLive, Safe, treePlace, pairPlace, faultPlace}
-use Rattle.feeding.specs.Restoration.{Operables, operables}
+use Rattle.feeding.specs.Restoration.{Operables, operablesBy}
+use Rattle.feeding.specs.Tasks.{Task, restoration}
 
--- What the paper says, rule by rule in its order: each refusal with its place, where the rules before it are kept. `acceptance-answered`
+-- What the paper says, rule by rule in its order, for any task: each refusal with its place, where the rules before it are kept. `acceptance-answered`
 -- and `answered-acceptance` say that `acceptance` gives this answer and no other.
-pub data Answered (net : Net) : Answer → Type 0 where
+pub data AnsweredBy (net : Net) (t : Task net) : Answer → Type 0 where
   -- "14. At the start a part isn't a tree (the lowest element of such a part)."
   not-a-tree : {p : ℕ}
       → p < net .grid .E
       → Lowest (net .grid .E) (λ e. ¬ Tree (net .grid) (net .startClosed) e) p
-      → Answered net (Refused (record { rule = NotATree; place = p }))
+      → AnsweredBy net t (Refused (record { rule = NotATree; place = p }))
   -- "15. At the start a part has two sound sources (the lowest such source)."
   two-sources : {p : ℕ}
       → ((e : ℕ) → e < net .grid .E → Tree (net .grid) (net .startClosed) e)
       → p < net .grid .E
       → Lowest (net .grid .E) (Paired (net .grid) (net .startClosed)) p
-      → Answered net (Refused (record { rule = TwoSources; place = p }))
+      → AnsweredBy net t (Refused (record { rule = TwoSources; place = p }))
   -- "16. At the start a part has a faulty element and a sound source (the lowest such faulty element)."
   fault-with-source : {p : ℕ}
       → ((e : ℕ) → e < net .grid .E → Tree (net .grid) (net .startClosed) e)
       → ((e : ℕ) → e < net .grid .E → ¬ Paired (net .grid) (net .startClosed) e)
       → p < net .grid .E
       → Lowest (net .grid .E) (FaultLive (net .grid) (net .startClosed)) p
-      → Answered net (Refused (record { rule = FaultWithSource; place = p }))
+      → AnsweredBy net t (Refused (record { rule = FaultWithSource; place = p }))
   -- "17. At the start a live element is loaded above its capacity (the lowest such element)."
   overloaded : {p : ℕ}
       → ((e : ℕ) → e < net .grid .E → Tree (net .grid) (net .startClosed) e)
@@ -45,19 +46,25 @@ pub data Answered (net : Net) : Answer → Type 0 where
       → ((e : ℕ) → e < net .grid .E → ¬ FaultLive (net .grid) (net .startClosed) e)
       → p < net .grid .E
       → Lowest (net .grid .E) (Loads.Overloaded (net .grid) (net .startClosed)) p
-      → Answered net (Refused (record { rule = Overloaded; place = p }))
+      → AnsweredBy net t (Refused (record { rule = Overloaded; place = p }))
   -- "18. More than 12 switches are operable (their count)."
   too-many : {n : ℕ}
       → Safe (net .grid) (net .startClosed)
-      → Operables net n
-      → 12 < n
-      → Answered net (Refused (record { rule = TooManyOperable; place = n }))
-  accepted : {n : ℕ} → Safe (net .grid) (net .startClosed) → Operables net n → n ≤ 12 → Answered net Accepted
+      → Operables (t .operable) n
+      → t .limit < n
+      → AnsweredBy net t (Refused (record { rule = TooManyOperable; place = n }))
+  accepted : {n : ℕ} → Safe (net .grid) (net .startClosed) → Operables (t .operable) n → n ≤ t .limit → AnsweredBy net t Accepted
 
--- what acceptance promises: a safe start, and at most 12 operable switches
-pub record Starts (net : Net) : Type 0 where
+abbrev pub Answered : Net → Answer → Type 0
+Answered net a = AnsweredBy net (restoration net) a
+
+-- what acceptance promises: a safe start, and no more operable switches than the limit
+pub record StartsBy (net : Net) (t : Task net) : Type 0 where
   pub safe : Safe (net .grid) (net .startClosed)
-  pub few : length (operables net) ≤ 12
+  pub few : length (operablesBy net (t .operable?)) ≤ t .limit
+
+abbrev pub Starts : Net → Type 0
+Starts net = StartsBy net (restoration net)
 
 -- ---- what computes
 
@@ -74,7 +81,7 @@ safety g c =
     (brokenAt g Overloaded (lowestOver g c)
     Accepted)))
 
--- "At most 12 may be" operable; rule 18, by the count and the limit
+-- rule 18, by the limit and the count
 unfoldable pub limited : ℕ → ℕ → Answer
 limited limit count = elim (ltb limit count) [ true ↦ Refused (record { rule = TooManyOperable; place = count }) | false ↦ Accepted ]
 
@@ -84,8 +91,11 @@ andThen Accepted rest = rest
 andThen (Refused r) rest = Refused r
 
 -- "At the start"
-unfoldable pub acceptance : Net → Answer
-acceptance net = andThen (safety (net .grid) (net .startClosed)) (limited 12 (length (operables net)))
+unfoldable pub acceptanceBy : (net : Net) → Task net → Answer
+acceptanceBy net t = andThen (safety (net .grid) (net .startClosed)) (limited (t .limit) (length (operablesBy net (t .operable?))))
+
+abbrev pub acceptance : Net → Answer
+acceptance net = acceptanceBy net (restoration net)
 
 abbrev pub answerTo : Network → Answer
 answerTo n = acceptance (netOf n)

@@ -5,4 +5,5 @@ pub mod Loads
 pub mod Safety
 pub mod Restoration
 pub mod Plans
+pub mod Tasks
 pub mod Acceptance

@@ -2,7 +2,7 @@
 -- Assumes nothing.
 use mathlib.Core.Path.{_≡_}
 use mathlib.Core.Bool.{Bool, true, false, not, _&&_}
-use Prim.Native.Nat.{ℕ, zero, suc, _+_, _*_, _<_, min}
+use Prim.Native.Nat.{ℕ, zero, suc, _+_, _*_, _<_, _≤_, min}
 use lib.Dec.{eqb, ltb, leb}
 use Rattle.feeding.specs.Below.{sumTo, leastTo}
 use Rattle.feeding.specs.Networks.{Grid}
@@ -38,17 +38,28 @@ pub record FedOnce (g : Grid) (c : Config) (e : ℕ) : Type 0 where
   pub fed : Fed g c e via
   pub only : (w : ℕ) → Fed g c e w → w ≡ via
 
+-- The one place where a load meets a capacity: the element e bears the load x.
+abbrev pub Bears : Grid → ℕ → ℕ → Type 0
+Bears g e x = x ≤ g .capacity e
+
+abbrev pub bears? : Grid → ℕ → ℕ → Bool
+bears? g e x = leb x (g .capacity e)
+
+-- "the load at each live element is at most its capacity"
+abbrev pub Within : Grid → Config → Type 0
+Within g c = (e via : ℕ) → Fed g c e via → Bears g e (loadAt g c e via)
+
 -- a live element that is loaded above its capacity
 pub record Overloaded (g : Grid) (c : Config) (e : ℕ) : Type 0 where
   pub via : ℕ
   pub fed : Fed g c e via
-  pub above : g .capacity e < loadAt g c e via
+  pub above : ¬ Bears g e (loadAt g c e via)
 
 -- ---- what computes: the lowest overloaded element from e onward, and over the link l away from e; E where there is none
 
--- e where the load x is above its capacity, else E
+-- e where it does not bear the load x, else E
 unfoldable pub above : Grid → ℕ → ℕ → ℕ
-above g e x = elim (leb x (g .capacity e)) [ true ↦ g .E | false ↦ e ]
+above g e x = elim (bears? g e x) [ true ↦ g .E | false ↦ e ]
 
 unfoldable mutual
   pub elementOver : Grid → Config → ℕ → ℕ → ℕ → ℕ

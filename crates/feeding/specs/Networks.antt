@@ -32,6 +32,20 @@ pub record Formed (g : Grid) : Type 0 where
   pub endB-lt : (l : ℕ) → l < g .K → g .endB l < g .E
   pub differ : (l : ℕ) → l < g .K → g .endA l ≡ g .endB l → ⊥
 
+-- the grid with other capacities
+abbrev pub withCapacity : Grid → (ℕ → ℕ) → Grid
+withCapacity g capacity =
+    record {
+      E = g .E;
+      K = g .K;
+      load = g .load;
+      capacity = capacity;
+      source = g .source;
+      faulty = g .faulty;
+      endA = g .endA;
+      endB = g .endB;
+    }
+
 -- the entry of a list at a number
 abbrev pub at : List ℕ → ℕ → ℕ
 at xs i = getD xs i 0

@@ -93,17 +93,15 @@ changed net q l = differ (net .startClosed l) (run (net .startClosed) q l)
 unfoldable pub setCost : Net → (ℕ → Bool) → ℕ
 setCost net D = sumTo (net .grid .K) (λ l. gate (D l) (net .cost l))
 
--- a cost of lists and of sets, by the two laws that the theory needs of it
-pub record Pricing (net : Net) : Type 0 where
-  pub list : List Step → ℕ
-  pub set : (ℕ → Bool) → ℕ
+-- a cost of lists and one of sets that agree, by the two laws that the theory needs of them
+pub record Pricing (net : Net) (list : List Step → ℕ) (set : (ℕ → Bool) → ℕ) : Type 0 where
   -- a set costs at most any list that leaves it changed
   pub at-most : (q : List Step) → set (changed net q) ≤ list q
   -- the printed form costs what its set costs
   pub printed : (D : ℕ → Bool) → ((l : ℕ) → D l ≡ true → l < net .grid .K) → list (printedForm net D) ≡ set D
 
 -- what demand 3 rests on: the printed form of the switches that q leaves changed is valid, operates each of them once, and costs no more
-pub record Matched (net : Net) (op : ℕ → Type 0) (goal : Config → Type 0) (price : Pricing net) (q : List Step) : Type 0 where
+pub record Matched (net : Net) (op : ℕ → Type 0) (goal : Config → Type 0) (price : List Step → ℕ) (q : List Step) : Type 0 where
   pub valid : Valid net op goal (printedForm net (changed net q))
   pub once : (l : ℕ) → operations l (printedForm net (changed net q)) ≡ gate (changed net q l) 1
-  pub cheaper : price .list (printedForm net (changed net q)) ≤ price .list q
+  pub cheaper : price (printedForm net (changed net q)) ≤ price q

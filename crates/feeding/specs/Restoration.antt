@@ -39,12 +39,12 @@ pub record Operable (net : Net) (l : ℕ) : Type 0 where
   pub switch : net .fixed l ≡ false
   pub waits : Waits net (net .grid .endA l) ⊎ Waits net (net .grid .endB l)
 
--- n switches are operable: a list by rising number has them all, and n entries
-pub record Operables (net : Net) (n : ℕ) : Type 0 where
+-- n switches are operable, where `op` says which are: a list by rising number has them all, and n entries
+pub record Operables (op : ℕ → Type 0) (n : ℕ) : Type 0 where
   pub list : List ℕ
   pub rising : Rising list
-  pub only : (l : ℕ) → Member l list → Operable net l
-  pub all : (l : ℕ) → Operable net l → Member l list
+  pub only : (l : ℕ) → Member l list → op l
+  pub all : (l : ℕ) → op l → Member l list
   pub count : n ≡ length list
 
 -- "every restorable element is live"
@@ -71,9 +71,12 @@ waits? net e = restorable? net e && not (live? (net .grid) (net .startClosed) e)
 unfoldable pub operable? : Net → ℕ → Bool
 operable? net l = ltb l (net .grid .K) && (not (net .fixed l) && (waits? net (net .grid .endA l) || waits? net (net .grid .endB l)))
 
--- the operable switches, by rising number
-unfoldable pub operables : Net → List ℕ
-operables net = those (net .grid .K) (operable? net)
+-- the switches that pass a test, by rising number; the operable ones
+unfoldable pub operablesBy : Net → (ℕ → Bool) → List ℕ
+operablesBy net op = those (net .grid .K) op
+
+abbrev pub operables : Net → List ℕ
+operables net = operablesBy net (operable? net)
 
 unfoldable pub restored? : Net → Config → Bool
 restored? net c = allTo (net .grid .E) (λ e. imp (restorable? net e) (live? (net .grid) c e))

@@ -2,12 +2,12 @@
 -- Assumes nothing.
 use mathlib.Core.Path.{_≡_}
 use mathlib.Core.Bool.{Bool, true, false, not, _&&_}
-use Prim.Native.Nat.{ℕ, _≤_, _<_}
+use Prim.Native.Nat.{ℕ, _<_}
 use lib.Dec.{eqb, ltb}
 use Rattle.feeding.specs.Below.{anyTo, lowest}
 use Rattle.feeding.specs.Networks.{Grid, at}
 use Rattle.feeding.specs.Parts.{Config, Joined, Sound, Live, labelsAfter, joined?, sound?, live?}
-use Rattle.feeding.specs.Loads.{Fed, loadAt, lowestOver}
+use Rattle.feeding.specs.Loads.{Within, lowestOver}
 
 -- the configuration with the link l open
 unfoldable pub without : Config → ℕ → Config
@@ -36,7 +36,7 @@ pub record Safe (g : Grid) (c : Config) : Type 0 where
   pub tree : (e : ℕ) → e < g .E → Tree g c e
   pub one : (s t : ℕ) → Sound g s → Sound g t → Joined g c t s → s ≡ t
   pub clear : (e : ℕ) → e < g .E → g .faulty e ≡ true → ¬ Live g c e
-  pub within : (e via : ℕ) → Fed g c e via → loadAt g c e via ≤ g .capacity e
+  pub within : Within g c
 
 -- ---- what computes
 

@@ -6,26 +6,22 @@ use Prim.Native.Nat.{ℕ}
 use native.Mathlib.Omega.{arith}
 use Rattle.network.specs.declared.Network.{Network}
 use Rattle.network.specs.declared.refusal.Refusal.{Refusal}
-use Rattle.network.specs.Networks.{emptyNetwork}
 use Rattle.network.specs.declared.refusal.Answer.{Answer}
 use Rattle.network.specs.declared.refusal.Answer.the-variants.{Accepted, Refused}
 use Rattle.file_network.specs.declared.NetworkRead.{NetworkRead}
 use Rattle.network.specs.Accepted.{WellFormed}
 use Rattle.file_network.specs.Inputs.{networkInput, networkRead}
 use Rattle.file_network.specs.Runs as Runs
-use Rattle.file_network.specs.Runs.{Reading}
 use Rattle.file_refusals.specs.Stated.{NetworkOf}
 use Rattle.file_refusals.proofs.Reading.{network-unread, network-handed-out, network-read}
 use Rattle.feeding.specs.Networks.{netOf}
 use Rattle.feeding.specs.Acceptance.{Answered, Starts, answerTo}
 use Rattle.feeding.proofs.Views.{network-answered, answered-network, accepted-starts}
-use Rattle.feeding_acceptance.specs.Reading.{handedOut, acceptedFrom, acceptedRead, Bytes, AcceptedNetwork, FirstRule, in-bytes, in-network, Admission, refused, accepted}
+use Rattle.feeding_start.specs.Starting.{startWith, Begun}
+use Rattle.feeding_start.proofs.Starts.{begun-network}
+use Rattle.feeding_acceptance.specs.declared.Admitted.{Admitted}
+use Rattle.feeding_acceptance.specs.Reading.{unadmitted, handedOut, acceptedFrom, acceptedRead, Bytes, AcceptedNetwork, FirstRule, in-bytes, in-network, Admission, refused, accepted}
 use Rattle.feeding_acceptance.proofs.Reading.{read-well-formed}
-
-empty-read : (o : Reading Network) (r : Refusal) → networkRead o .answer ≡ Refused r → networkRead o .net ≡ emptyNetwork
-unfolding networkRead
-empty-read (Runs.refused q) r e = refl
-empty-read (Runs.reached at stage n) r e = let z : _≡_ {A = ℕ} 0 1 = cc in absurd (omega arith)
 
 -- what a refusal holds
 refusalOr : Refusal → Answer → Refusal
@@ -42,8 +38,8 @@ module _ (s : List ℕ) (bytes : Bytes s) where
   file-formed n file = read-well-formed s bytes _ (sym (network-read s n .1 file)) refl
 
   -- whatever is admitted of s is what `read_accepted` answers, so bytes have one admission
-  pub admission-only : (r : NetworkRead) → Admission s r → r ≡ acceptedRead (networkRead (networkInput s))
-  unfolding acceptedRead acceptedFrom handedOut
+  pub admission-only : (r : Admitted) → Admission s r → r ≡ acceptedRead (networkRead (networkInput s))
+  unfolding acceptedRead acceptedFrom handedOut unadmitted
   admission-only _ (refused {f = f} (in-bytes b)) = ap acceptedRead (sym (network-handed-out s f .1 b))
   admission-only _ (refused {f = f} (in-network n file h)) =
       ap (handedOut n) (answered-network n (file-formed n file) (Refused f) h) ∙ ap acceptedRead (sym (network-read s n .1 file))
@@ -52,26 +48,23 @@ module _ (s : List ℕ) (bytes : Bytes s) where
 
   -- a network that was read and found well formed
   admission-network : (n : Network) → NetworkOf s n → (a : Answer) → Answered (netOf n) a → Admission s (handedOut n a)
-  unfolding handedOut
+  unfolding handedOut unadmitted
   admission-network n file Accepted h = accepted n (record { file = file; kept = h })
   admission-network n file (Refused r) h = refused (in-network n file h)
 
   admission-read : (read : NetworkRead) → networkRead (networkInput s) ≡ read → (a : Answer) → read .answer ≡ a → Admission s (acceptedFrom (read .net) a)
-  unfolding acceptedFrom
+  unfolding acceptedFrom unadmitted
   admission-read read e Accepted h =
       let file : NetworkOf s (read .net) = network-read s (read .net) .0 (e ∙ ap (λ (a : Answer). record { answer = a; net = read .net }) h) in
       admission-network (read .net) file (answerTo (read .net)) (network-answered (read .net) (file-formed (read .net) file))
-  admission-read read e (Refused r) h =
-      subst (λ (n : Network). Admission s (record { answer = Refused r; net = n }))
-      (sym (ap (λ (x : NetworkRead). x .net) (sym e) ∙ empty-read (networkInput s) r (ap (λ (x : NetworkRead). x .answer) e ∙ h)))
-      (refused (in-bytes (network-unread s r .0 (ap (λ (x : NetworkRead). x .answer) e ∙ h))))
+  admission-read read e (Refused r) h = refused (in-bytes (network-unread s r .0 (ap (λ (x : NetworkRead). x .answer) e ∙ h)))
 
   -- the theorem, for what `read_accepted` answers
   pub input-admission : Admission s (acceptedRead (networkRead (networkInput s)))
   unfolding acceptedRead
   input-admission = admission-read (networkRead (networkInput s)) refl (networkRead (networkInput s) .answer) refl
 
-  -- an accepted input: a well-formed network that starts safe, with at most 12 operable switches
+  -- an accepted input: a well-formed network that starts safe, with no more operable switches than may be
   pub network-starts : (n : Network) → AcceptedNetwork s n → WellFormed n × Starts (netOf n)
   network-starts n a =
       let formed = file-formed n (a .file) in
@@ -79,19 +72,20 @@ module _ (s : List ℕ) (bytes : Bytes s) where
 
   -- bytes have one accepted network, or one first rule that they break
   pub network-once : (n m : Network) → AcceptedNetwork s n → AcceptedNetwork s m → n ≡ m
-  network-once n m a b = ap (λ (r : NetworkRead). r .net) (admission-only _ (accepted n a) ∙ sym (admission-only _ (accepted m b)))
+  unfolding startWith
+  network-once n m a b = ap (λ (r : Admitted). r .start .net) (admission-only _ (accepted n a) ∙ sym (admission-only _ (accepted m b)))
 
   pub first-rule-once : (f g : Refusal) → FirstRule s f → FirstRule s g → f ≡ g
-  first-rule-once f g a b = same-refusal (ap (λ (r : NetworkRead). r .answer) (admission-only _ (refused a) ∙ sym (admission-only _ (refused b))))
+  first-rule-once f g a b = same-refusal (ap (λ (r : Admitted). r .answer) (admission-only _ (refused a) ∙ sym (admission-only _ (refused b))))
 
   pub accepted-unrefused : (n : Network) (f : Refusal) → AcceptedNetwork s n → ¬ FirstRule s f
   accepted-unrefused n f a r =
-      let same : Accepted ≡ Refused f = ap (λ (x : NetworkRead). x .answer) (admission-only _ (accepted n a) ∙ sym (admission-only _ (refused r))) in
+      let same : Accepted ≡ Refused f = ap (λ (x : Admitted). x .answer) (admission-only _ (accepted n a) ∙ sym (admission-only _ (refused r))) in
       let z : _≡_ {A = ℕ} 0 1 = cc in
       absurd (omega arith)
 
   -- what was read, for the code that calls `read_accepted`
-  module _ (read : NetworkRead) (is : read ≡ acceptedRead (networkRead (networkInput s))) where
+  module _ (read : Admitted) (is : read ≡ acceptedRead (networkRead (networkInput s))) where
     pub read-admission : Admission s read
     read-admission = subst (Admission s) (sym is) input-admission
 
@@ -99,10 +93,10 @@ module _ (s : List ℕ) (bytes : Bytes s) where
     pub read-admitted : (read ≡ acceptedRead (networkRead (networkInput s))) × Admission s read
     read-admitted = (is, read-admission)
 
-    -- an accepted file's network is well formed and starts safe
-    pub read-starts : read .answer ≡ Accepted → WellFormed (read .net) × Starts (netOf (read .net))
-    read-starts e = go read read-admission e
+    -- an accepted file's network is well formed and starts safe, and the start is its own
+    pub read-begun : read .answer ≡ Accepted → Begun (read .start)
+    read-begun e = go read read-admission e
       where
-        go : (r : NetworkRead) → Admission s r → r .answer ≡ Accepted → WellFormed (r .net) × Starts (netOf (r .net))
+        go : (r : Admitted) → Admission s r → r .answer ≡ Accepted → Begun (r .start)
         go _ (refused _) e = let z : _≡_ {A = ℕ} 0 1 = cc in absurd (omega arith)
-        go _ (accepted n a) e = network-starts n a
+        go _ (accepted n a) e = begun-network n (network-starts n a .0) (network-starts n a .1)

@@ -1,6 +1,6 @@
 -- What an accepted input promises of its network, and each answer of `accept` and `read_accepted` as its definition gives it.
 -- Assumes nothing.
-use mathlib.Core.Path.{_≡_, refl, sym, ap, _∙_}
+use mathlib.Core.Path.{_≡_, refl, sym, ap, _∙_, subst}
 use mathlib.Core.Bool.{Bool, true, false}
 use mathlib.Core.List.{List}
 use Prim.Native.Nat.{ℕ, _<_, _≤_}
@@ -22,10 +22,19 @@ use Rattle.file_network.specs.NetworkFiles.{networkFile}
 use Rattle.file_network.specs.Runs.{Reading, refused, reached}
 use Rattle.file_network.specs.Runs as Runs
 use Rattle.file_network.proofs.Accepted.{network-well-formed}
-use Rattle.feeding.specs.Networks.{netOf}
+use Rattle.feeding.specs.Below.{bits}
+use Rattle.feeding.specs.Networks.{netOf, gridOf}
+use Rattle.feeding.specs.Parts.{closedIn}
+use Rattle.feeding.proofs.States.{safety-same}
+use Rattle.feeding.proofs.Views.{formed-net}
+use Rattle.feeding_restoration.proofs.Sets.{set-at}
 use Rattle.feeding.specs.Restoration.{operables}
-use Rattle.feeding.specs.Acceptance.{limited, andThen, acceptance, answerTo}
-use Rattle.feeding_acceptance.specs.Reading.{startSafety, handedOut, acceptedFrom, acceptedRead}
+use Rattle.feeding.specs.Acceptance.{safety, limited, andThen, acceptanceBy, answerTo}
+use Rattle.feeding.specs.Tasks.{mostOperable}
+use Rattle.feeding_start.specs.declared.Start.{Start}
+use Rattle.feeding_start.specs.Starting.{startOf, startWith}
+use Rattle.feeding_acceptance.specs.declared.Admitted.{Admitted}
+use Rattle.feeding_acceptance.specs.Reading.{unadmitted, handedOut, acceptedFrom, acceptedRead}
 
 pub read-well-formed : (s : List ℕ) → ((i : ℕ) → getD s i 0 < 256) → (r : NetworkRead) → r ≡ networkRead (networkInput s) → r .answer ≡ Accepted → WellFormed (r .net)
 unfolding networkRead networkInput
@@ -40,35 +49,71 @@ read-well-formed s bytes r e a = rw e (go (networkFile s) refl (sym (ap (λ (x :
         by true k = let z : _≡_ {A = ℕ} 0 1 = cc in absurd (omega arith)
         by false k = network-well-formed s at stage n bytes h
 
-pub over-limit : (limit count : ℕ) → limit < count → Refused (record { rule = TooManyOperable; place = count }) ≡ limited limit count
+-- rule 18, by the count
+limited-over : (limit count : ℕ) → limit < count → Refused (record { rule = TooManyOperable; place = count }) ≡ limited limit count
 unfolding limited
-over-limit limit count h = rw (limited, lt-ltb limit count h)
+limited-over limit count h = rw (limited, lt-ltb limit count h)
 
-pub within : (limit count : ℕ) → count ≤ limit → Accepted ≡ limited limit count
+limited-within : (limit count : ℕ) → count ≤ limit → Accepted ≡ limited limit count
 unfolding limited
-within limit count h = rw (limited, le-ltb limit count h)
+limited-within limit count h = rw (limited, le-ltb limit count h)
 
-module _ (n : Network) (safe : Answer) (is : safe ≡ startSafety n) where
-  pub unsafe-answer : (r : Refusal) → safe ≡ Refused r → Refused r ≡ answerTo n
-  unfolding acceptance andThen startSafety
+module _ (start : Start) (made : start ≡ startOf (start .net)) (limit count : ℕ) (is : count ≡ length (operables (netOf (start .net)))) where
+  pub over-limit : limit < count → unadmitted (record { rule = TooManyOperable; place = count })
+      ≡ handedOut (start .net) (limited limit (length (operables (netOf (start .net)))))
+  unfolding handedOut
+  over-limit h = ap (handedOut (start .net)) (limited-over limit count h ∙ ap (limited limit) is)
+
+  pub within : count ≤ limit → record { answer = Accepted; start = start } ≡ handedOut (start .net) (limited limit (length (operables (netOf (start .net)))))
+  unfolding handedOut
+  within h = ap (λ (x : Start). record { answer = Accepted; start = x }) made ∙ ap (handedOut (start .net)) (limited-within limit count h ∙ ap (limited limit) is)
+
+-- the states at the start, held as numbers, are the configuration at the start
+pub start-safety : (n : Network) → WellFormed n → (closed : List ℕ) → closed ≡ bits 96 (n .links) (netOf n .startClosed)
+    → safety (netOf n .grid) (closedIn closed) ≡ safety (netOf n .grid) (netOf n .startClosed)
+unfolding netOf gridOf
+start-safety n w closed c =
+    safety-same (netOf n .grid) (formed-net n w) (closedIn closed) (netOf n .startClosed) (set-at n w (n .links) _ closed (w .links-fit) c)
+
+-- a start that is a network's own
+module _ (n : Network) where
+  pub start-made : (s : Start) → s ≡ startOf n → s ≡ startOf (s .net)
+  unfolding startWith
+  start-made s e = e ∙ ap (λ (x : Start). startOf (x .net)) (sym e)
+
+  pub start-formed : WellFormed n → (s : Start) → s ≡ startOf n → WellFormed (s .net)
+  unfolding startWith
+  start-formed w s e = subst (λ (x : Start). WellFormed (x .net)) (sym e) w
+
+  pub start-answer : (s : Start) → s ≡ startOf n
+      → handedOut (s .net) (limited mostOperable (length (operables (netOf (s .net))))) ≡ handedOut n (limited mostOperable (length (operables (netOf n))))
+  unfolding startWith
+  start-answer s e = ap (λ (x : Start). handedOut (x .net) (limited mostOperable (length (operables (netOf (x .net)))))) e
+
+-- rules 14 to 17 of the starting configuration, then 18
+module _ (n : Network) (safe : Answer) (is : safe ≡ safety (netOf n .grid) (netOf n .startClosed)) where
+  pub unsafe-answer : (r : Refusal) → safe ≡ Refused r → unadmitted r ≡ handedOut n (answerTo n)
+  unfolding acceptanceBy andThen handedOut
   unsafe-answer r e = rw (sym is ∙ e)
 
-  pub safe-answer : (count : ℕ) (a : Answer) → safe ≡ Accepted → count ≡ length (operables (netOf n)) → a ≡ limited 12 count → a ≡ answerTo n
-  unfolding acceptance andThen startSafety
-  safe-answer count a e c h = rw (sym is ∙ e, ← c) h
+  pub safe-answer : (a : Admitted) → safe ≡ Accepted → a ≡ handedOut n (limited mostOperable (length (operables (netOf n)))) → a ≡ handedOut n (answerTo n)
+  unfolding acceptanceBy andThen
+  safe-answer a e h = rw (sym is ∙ e) h
 
-pub handed-accepted : (n : Network) (a : Answer) → a ≡ Accepted → record { answer = a; net = n } ≡ handedOut n a
-unfolding handedOut
-handed-accepted n a e = rw e
-
-pub handed-none : (n none : Network) (a : Answer) (r : Refusal) → a ≡ Refused r → none ≡ emptyNetwork → record { answer = a; net = none } ≡ handedOut n a
-unfolding handedOut
-handed-none n none a r e h = rw (e, h)
-
-pub read-refused : (read : NetworkRead) (r : Refusal) → read .answer ≡ Refused r → record { answer = read .answer; net = read .net } ≡ acceptedRead read
+pub read-refused : (read : NetworkRead) (r : Refusal) → read .answer ≡ Refused r → unadmitted r ≡ acceptedRead read
 unfolding acceptedRead acceptedFrom
 read-refused read r e = rw e
 
-pub read-decided : (read x : NetworkRead) (a : Answer) → read .answer ≡ Accepted → a ≡ answerTo (read .net) → x ≡ handedOut (read .net) a → x ≡ acceptedRead read
+pub read-decided : (read : NetworkRead) (x : Admitted) → read .answer ≡ Accepted → x ≡ handedOut (read .net) (answerTo (read .net)) → x ≡ acceptedRead read
 unfolding acceptedRead acceptedFrom
-read-decided read x a e h k = rw (e, ← h) k
+read-decided read x e k = rw e k
+
+-- what is handed out with an answer
+pub handed-answer : (n : Network) (a : Answer) → handedOut n a .answer ≡ a
+unfolding handedOut unadmitted
+handed-answer n Accepted = refl
+handed-answer n (Refused r) = refl
+
+pub handed-start : (n : Network) (a : Answer) → a ≡ Accepted → handedOut n a .start ≡ startOf n
+unfolding handedOut
+handed-start n a e = rw e refl

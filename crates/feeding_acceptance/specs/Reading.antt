@@ -12,7 +12,9 @@ use Rattle.file_network.specs.declared.NetworkRead.{NetworkRead}
 use Rattle.file_refusals.specs.Files.{FirstBroken}
 use Rattle.file_refusals.specs.Stated.{NetworkOf}
 use Rattle.feeding.specs.Networks.{netOf}
-use Rattle.feeding.specs.Acceptance.{Answered, safety, answerTo}
+use Rattle.feeding.specs.Acceptance.{Answered, answerTo}
+use Rattle.feeding_start.specs.Starting.{startOf}
+use Rattle.feeding_acceptance.specs.declared.Admitted.{Admitted}
 
 -- ---- what the paper says of the planner's input
 
@@ -30,24 +32,24 @@ pub data FirstRule (s : List ℕ) : Refusal → Type 0 where
   in-bytes : {f : Refusal} → FirstBroken s f → FirstRule s f
   in-network : {f : Refusal} (n : Network) → NetworkOf s n → Answered (netOf n) (Refused f) → FirstRule s f
 
--- what s is admitted as: "A refusal hands out no plan, mark or partial network."
-pub data Admission (s : List ℕ) : NetworkRead → Type 0 where
-  refused : {f : Refusal} → FirstRule s f → Admission s (record { answer = Refused f; net = emptyNetwork })
-  accepted : (n : Network) → AcceptedNetwork s n → Admission s (record { answer = Accepted; net = n })
+-- what s is admitted as: the start of an accepted network; "A refusal hands out no plan, mark or partial network."
+pub data Admission (s : List ℕ) : Admitted → Type 0 where
+  refused : {f : Refusal} → FirstRule s f → Admission s (record { answer = Refused f; start = startOf emptyNetwork })
+  accepted : (n : Network) → AcceptedNetwork s n → Admission s (record { answer = Accepted; start = startOf n })
 
 -- ---- what computes
 
-unfoldable pub startSafety : Network → Answer
-startSafety n = safety (netOf n .grid) (netOf n .startClosed)
-
 -- "A refusal hands out no plan, mark or partial network."
-unfoldable pub handedOut : Network → Answer → NetworkRead
-handedOut n Accepted = record { answer = Accepted; net = n }
-handedOut n (Refused r) = record { answer = Refused r; net = emptyNetwork }
+unfoldable pub unadmitted : Refusal → Admitted
+unadmitted r = record { answer = Refused r; start = startOf emptyNetwork }
 
-unfoldable pub acceptedFrom : Network → Answer → NetworkRead
+unfoldable pub handedOut : Network → Answer → Admitted
+handedOut n Accepted = record { answer = Accepted; start = startOf n }
+handedOut n (Refused r) = unadmitted r
+
+unfoldable pub acceptedFrom : Network → Answer → Admitted
 acceptedFrom n Accepted = handedOut n (answerTo n)
-acceptedFrom n (Refused r) = record { answer = Refused r; net = n }
+acceptedFrom n (Refused r) = unadmitted r
 
-unfoldable pub acceptedRead : NetworkRead → NetworkRead
+unfoldable pub acceptedRead : NetworkRead → Admitted
 acceptedRead r = acceptedFrom (r .net) (r .answer)

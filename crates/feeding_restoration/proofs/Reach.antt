@@ -14,7 +14,7 @@ use Rattle.feeding_parts.specs.declared.Parts.{Parts}
 use Rattle.feeding_parts.specs.Labelling.{EndsBelow, partsOf}
 use Rattle.feeding_parts.proofs.Grids.{label-below, label-long}
 use Rattle.feeding_sets.specs.Sets.{Reach, PartsReach, EndsReach}
-use Rattle.feeding_restoration.specs.Living.{ConfigurationReach}
+use Rattle.feeding_restoration.specs.Joining.{JoinsReach}
 
 pub bits-long : (xs : List ℕ) (m : ℕ) (f : ℕ → Bool) → xs ≡ bits 96 m f → length xs ≡ 96
 bits-long xs m f e = ap length e ∙ length-bits 96 m f
@@ -33,8 +33,8 @@ parts-reach E K from to closed parts has fit p h =
       label-in = λ x _. label-below from to closed K x;
     })
 
-pub configuration-ends : (flags from to closed : List ℕ) (E K : ℕ) → ConfigurationReach flags from to closed E K → EndsBelow 64 from to closed K
-configuration-ends flags from to closed E K r =
+pub joins-ends : (from to closed has : List ℕ) (E K : ℕ) → JoinsReach from to closed has E K → EndsBelow 64 from to closed K
+joins-ends from to closed has E K r =
     record {
       from-long = r .from-long;
       to-long = r .to-long;
@@ -44,21 +44,21 @@ configuration-ends flags from to closed E K r =
     }
 
 module _ (n : Network) (w : WellFormed n) where
-  pub network-configuration : (closed : List ℕ) → length closed ≡ 96 → ConfigurationReach (n .flags) (n .from) (n .to) closed (n .elements) (n .links)
-  network-configuration closed h =
+  pub network-joins : (closed has : List ℕ) → length closed ≡ 96 → length has ≡ 96 → JoinsReach (n .from) (n .to) closed has (n .elements) (n .links)
+  network-joins closed has h k =
       record {
         elements-fit = w .elements-fit;
         links-fit = w .links-fit;
-        flags-long = omega (arith, w .flags-long, w .elements-fit);
         from-long = omega (arith, w .from-long, w .links-fit);
         to-long = omega (arith, w .to-long, w .links-fit);
         closed-long = omega (arith, w .links-fit);
+        has-long = omega (arith, w .elements-fit);
         from-in = w .from-in;
         to-in = w .to-in;
       }
 
   pub network-ends : (closed : List ℕ) → length closed ≡ 96 → EndsBelow 64 (n .from) (n .to) closed (n .links)
-  network-ends closed h = configuration-ends (n .flags) (n .from) (n .to) closed (n .elements) (n .links) (network-configuration closed h)
+  network-ends closed h = joins-ends (n .from) (n .to) closed closed (n .elements) (n .links) (network-joins closed closed h h)
 
   -- a set of elements, asked at the ends of the links
   pub ends-reach : (has : List ℕ) → length has ≡ 96 → EndsReach (n .from) (n .to) has (n .links)

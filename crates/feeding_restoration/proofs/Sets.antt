@@ -2,39 +2,23 @@
 -- Assumes nothing.
 use mathlib.Core.Path.{_≡_, refl, ap, ap₂, _∙_}
 use mathlib.Core.Bool.{Bool, true, not, _&&_, or-self, and-comm}
-use mathlib.Core.List.{List, []}
+use mathlib.Core.List.{List}
 use Prim.Native.Nat.{ℕ, _<_, _≤_}
 use native.Mathlib.Omega.{arith}
 use lib.Dec.{eqb}
 use lib.ListN.{replicate, getD-replicate}
 use Rattle.network.specs.declared.Network.{Network}
 use Rattle.network.specs.Accepted.{WellFormed}
-use Rattle.feeding.specs.Below.{bits}
+use Rattle.feeding.specs.Below.{bits, anyTo}
 use Rattle.feeding.specs.Networks.{netOf, gridOf, at, isIn}
-use Rattle.feeding.specs.Parts.{closedIn, label, joined?, sound?, live?}
+use Rattle.feeding.specs.Parts.{Config, closedIn, joined?, sound?, live?}
 use Rattle.feeding.specs.Restoration.{spoiled?, clean, restorable?}
 use Rattle.feeding.proofs.Below.{not-or}
 use Rattle.feeding.proofs.Bits.{bits-ext, isIn-bits}
-use Rattle.feeding.proofs.States.{live-same}
 use Rattle.feeding.proofs.Tests.{sound-flag}
-use Rattle.feeding_parts.specs.declared.Parts.{Parts}
-use Rattle.feeding_parts.specs.Labelling.{partsOf}
-use Rattle.feeding_sets.specs.Sets.{oneOf, butNot, partHas, atEitherEnd}
-use Rattle.feeding_restoration.specs.Living.{ConfigurationReach, liveIn}
+use Rattle.feeding_sets.specs.Sets.{oneOf, butNot, atEitherEnd}
+use Rattle.feeding_restoration.specs.Joining.{joinedTo}
 use Rattle.feeding_restoration.proofs.Spreads.{spread-is}
-
-module _ (E K : ℕ) (flags from to closed : List ℕ) (reach : ConfigurationReach flags from to closed E K) where
-  -- the live elements
-  pub live-is : (parts : Parts) (sound : List ℕ) → parts ≡ partsOf from to closed K → sound ≡ bits 96 E (oneOf flags 1 1)
-      → bits 96 E (partHas (parts .label) sound E) ≡ bits 96 E (liveIn E K flags from to closed)
-  unfolding liveIn live? sound? gridOf oneOf
-  live-is parts sound p e = rw p (bits-ext 96 E _ _ (λ x k. spread-is E K [] [] flags from to closed (closedIn closed) (reach .elements-fit)
-      (λ l kl. (reach .from-in l kl, reach .to-in l kl)) (λ _ _. refl) sound (sound? (gridOf E K [] [] flags from to)) sound-is x k))
-    where
-      sound-is : (y : ℕ) → y < E → isIn sound y ≡ sound? (gridOf E K [] [] flags from to) y
-      sound-is y k =
-          ap (λ (xs : List ℕ). isIn xs y) e ∙ isIn-bits 96 E _ y (omega (arith, reach .elements-fit)) k
-          ∙ or-self (eqb (at flags y) 1) ∙ sound-flag (at flags y)
 
 pub ones : (x : ℕ) → x < 96 → isIn (replicate 96 1) x ≡ true
 ones x k = rw (getD-replicate {A = ℕ} 96 x 1 0 k)
@@ -49,30 +33,45 @@ module _ (n : Network) (w : WellFormed n) where
   pub fits : n .elements ≤ 96
   fits = omega (arith, w .elements-fit)
 
-  -- the states at the start are the configuration at the start
-  pub closed-at : (closed : List ℕ) → closed ≡ bits 96 (n .links) (oneOf (n .form) 0 2) → (l : ℕ) → l < n .links → closedIn closed l ≡ netOf n .startClosed l
+  -- the sets by form and by flags are those of the view
+  pub closed-is : bits 96 (n .links) (oneOf (n .form) 0 2) ≡ bits 96 (n .links) (netOf n .startClosed)
   unfolding netOf oneOf
-  closed-at closed c l k = set-at (n .links) _ closed (w .links-fit) c l k
+  closed-is = refl
 
-  pub live-at-start : (closed : List ℕ) → closed ≡ bits 96 (n .links) (oneOf (n .form) 0 2) → (e : ℕ)
-      → liveIn (n .elements) (n .links) (n .flags) (n .from) (n .to) closed e ≡ live? (netOf n .grid) (netOf n .startClosed) e
-  unfolding liveIn live? sound? joined? label netOf gridOf
-  live-at-start closed c e = live-same (netOf n .grid) (closedIn closed) (netOf n .startClosed) (closed-at closed c) e
+  pub fixed-is : bits 96 (n .links) (oneOf (n .form) 0 0) ≡ bits 96 (n .links) (netOf n .fixed)
+  unfolding netOf oneOf
+  fixed-is = bits-ext 96 (n .links) _ _ (λ l _. or-self (eqb (at (n .form) l) 0))
 
-  pub spoiled-is : (fixed : List ℕ) (parts : Parts) (faulty : List ℕ) → fixed ≡ bits 96 (n .links) (oneOf (n .form) 0 0)
-      → parts ≡ partsOf (n .from) (n .to) fixed (n .links) → faulty ≡ bits 96 (n .elements) (oneOf (n .flags) 2 3)
-      → bits 96 (n .elements) (partHas (parts .label) faulty (n .elements)) ≡ bits 96 (n .elements) (spoiled? (netOf n))
-  unfolding spoiled? netOf gridOf oneOf
-  spoiled-is fixed parts faulty f p h =
-      rw p (bits-ext 96 (n .elements) _ _
-      (spread-is (n .elements) (n .links) (n .load) (n .capacity) (n .flags) (n .from) (n .to) fixed (netOf n .fixed) (w .elements-fit) ends fixed-is
-      faulty (netOf n .grid .faulty) faulty-is))
-    where
-      fixed-is : (l : ℕ) → l < n .links → closedIn fixed l ≡ netOf n .fixed l
-      fixed-is l k = set-at (n .links) _ fixed (w .links-fit) f l k ∙ or-self (eqb (at (n .form) l) 0)
+  pub faulty-is : bits 96 (n .elements) (oneOf (n .flags) 2 3) ≡ bits 96 (n .elements) (netOf n .grid .faulty)
+  unfolding netOf gridOf oneOf
+  faulty-is = refl
 
-      faulty-is : (e : ℕ) → e < n .elements → isIn faulty e ≡ netOf n .grid .faulty e
-      faulty-is e k = set-at (n .elements) _ faulty fits h e k
+  pub sound-is : bits 96 (n .elements) (oneOf (n .flags) 1 1) ≡ bits 96 (n .elements) (sound? (netOf n .grid))
+  unfolding netOf gridOf oneOf sound?
+  sound-is = bits-ext 96 (n .elements) _ _ (λ e _. or-self (eqb (at (n .flags) e) 1) ∙ sound-flag (at (n .flags) e))
+
+  -- a set spread over the parts of a configuration, whose states a list holds
+  module _ (closed : List ℕ) (c : Config) (same : (l : ℕ) → l < n .links → closedIn closed l ≡ c l) (has : List ℕ) (h : ℕ → Bool)
+      (is : has ≡ bits 96 (n .elements) h) where
+    joined-is : (e : ℕ) → e < n .elements
+        → joinedTo (n .from) (n .to) closed has (n .elements) (n .links) e ≡ anyTo (n .elements) (λ y. h y && joined? (netOf n .grid) c y e)
+    unfolding joinedTo netOf
+    joined-is = spread-is (n .elements) (n .links) (n .load) (n .capacity) (n .flags) (n .from) (n .to) closed c (w .elements-fit) ends same
+        has h (set-at (n .elements) h has fits is)
+
+  -- from the sound sources: the live elements
+  pub live-is : (closed : List ℕ) (c : Config) → ((l : ℕ) → l < n .links → closedIn closed l ≡ c l)
+      → (sound : List ℕ) → sound ≡ bits 96 (n .elements) (sound? (netOf n .grid))
+      → bits 96 (n .elements) (joinedTo (n .from) (n .to) closed sound (n .elements) (n .links)) ≡ bits 96 (n .elements) (live? (netOf n .grid) c)
+  unfolding live? netOf gridOf
+  live-is closed c same sound e = bits-ext 96 (n .elements) _ _ (joined-is closed c same sound (sound? (netOf n .grid)) e)
+
+  -- from the faulty ones, over fixed links: the spoiled ones
+  pub spoiled-is : (fixed faulty : List ℕ) → fixed ≡ bits 96 (n .links) (netOf n .fixed) → faulty ≡ bits 96 (n .elements) (netOf n .grid .faulty)
+      → bits 96 (n .elements) (joinedTo (n .from) (n .to) fixed faulty (n .elements) (n .links)) ≡ bits 96 (n .elements) (spoiled? (netOf n))
+  unfolding spoiled? netOf gridOf
+  spoiled-is fixed faulty f h = bits-ext 96 (n .elements) _ _
+      (joined-is fixed (netOf n .fixed) (set-at (n .links) _ fixed (w .links-fit) f) faulty (netOf n .grid .faulty) h)
 
   -- the restorable elements, from the spoiled ones
   module _ (spoiled : List ℕ) (is : spoiled ≡ bits 96 (n .elements) (spoiled? (netOf n))) where
@@ -89,23 +88,20 @@ module _ (n : Network) (w : WellFormed n) where
         ∙ ap₂ (λ (x y : Bool). not x && not y) (spoiled-at (at (n .from) l) (w .from-in l k)) (spoiled-at (at (n .to) l) (w .to-in l k))
 
     pub unspoiled-is : (source unspoiled : List ℕ) → source ≡ bits 96 (n .elements) (oneOf (n .flags) 1 3)
-        → unspoiled ≡ bits 96 (n .elements) (butNot source spoiled) → (e : ℕ) → e < n .elements
-        → isIn unspoiled e ≡ (netOf n .grid .source e && not (spoiled? (netOf n) e))
+        → unspoiled ≡ bits 96 (n .elements) (butNot source spoiled)
+        → unspoiled ≡ bits 96 (n .elements) (λ e. netOf n .grid .source e && not (spoiled? (netOf n) e))
     unfolding netOf gridOf butNot oneOf
-    unspoiled-is source unspoiled s u e k =
-        set-at (n .elements) _ unspoiled fits u e k
-        ∙ ap₂ (λ (x y : Bool). x && not y) (set-at (n .elements) _ source fits s e k) (spoiled-at e k)
+    unspoiled-is source unspoiled s u = u ∙ bits-ext 96 (n .elements) _ _ (λ e k.
+        ap₂ (λ (x y : Bool). x && not y) (set-at (n .elements) _ source fits s e k) (spoiled-at e k))
 
-    pub restorable-is : (clear : List ℕ) (parts : Parts) (unspoiled reached : List ℕ) → ((l : ℕ) → l < n .links → closedIn clear l ≡ clean (netOf n) l)
-        → ((e : ℕ) → e < n .elements → isIn unspoiled e ≡ (netOf n .grid .source e && not (spoiled? (netOf n) e)))
-        → parts ≡ partsOf (n .from) (n .to) clear (n .links)
-        → reached ≡ bits 96 (n .elements) (partHas (parts .label) unspoiled (n .elements))
+    pub restorable-is : (clear unspoiled reached : List ℕ) → ((l : ℕ) → l < n .links → closedIn clear l ≡ clean (netOf n) l)
+        → unspoiled ≡ bits 96 (n .elements) (λ e. netOf n .grid .source e && not (spoiled? (netOf n) e))
+        → reached ≡ bits 96 (n .elements) (joinedTo (n .from) (n .to) clear unspoiled (n .elements) (n .links))
         → bits 96 (n .elements) (butNot reached spoiled) ≡ bits 96 (n .elements) (restorable? (netOf n))
     unfolding restorable? netOf gridOf butNot
-    restorable-is clear parts unspoiled reached cl un p r = bits-ext 96 (n .elements) _ _ (λ e k.
+    restorable-is clear unspoiled reached cl un r = bits-ext 96 (n .elements) _ _ (λ e k.
         ap₂ (λ (x y : Bool). x && not y)
-        (set-at (n .elements) _ reached fits (rw p at r) e k
-        ∙ spread-is (n .elements) (n .links) (n .load) (n .capacity) (n .flags) (n .from) (n .to) clear (clean (netOf n)) (w .elements-fit) ends cl unspoiled
-        (λ s. netOf n .grid .source s && not (spoiled? (netOf n) s)) un e k)
+        (set-at (n .elements) _ reached fits r e k
+        ∙ joined-is clear (clean (netOf n)) cl unspoiled (λ s. netOf n .grid .source s && not (spoiled? (netOf n) s)) un e k)
         (spoiled-at e k)
         ∙ and-comm _ (not (spoiled? (netOf n) e)))

@@ -23,12 +23,12 @@ use Rattle.feeding.proofs.Forest.{safe-bridges}
 use Rattle.feeding.proofs.Tests.{sound-flag}
 use Rattle.feeding.proofs.Bits.{length-bits, isIn-bits}
 use Rattle.feeding_parts.specs.declared.Parts.{Parts}
-use Rattle.feeding_parts.specs.Labelling.{AllBelow, EndsBelow, partsOf, lastOfPart}
-use Rattle.feeding_parts.proofs.Grids.{label-long, looped-long, label-below, grid-ends, grid-label, grid-looped}
+use Rattle.feeding_parts.specs.Labelling.{AllBelow, partsOf, lastOfPart}
+use Rattle.feeding_parts.proofs.Grids.{label-long, looped-long, label-below, grid-label, grid-looped}
 use Rattle.feeding_parts.proofs.Lasts.{length-lasts}
 use Rattle.feeding_loads.specs.Walks.{walkGrid, Carries, overPlace}
 use Rattle.feeding_loads.proofs.Same.{over-place-is, carries}
-use Rattle.feeding_sets.specs.Sets.{Reach, oneOf}
+use Rattle.feeding_sets.specs.Sets.{oneOf}
 use Rattle.feeding_places.specs.Places.{LoopsReach, LastReach, leastLooped, notLast, withLast}
 use Rattle.feeding_safety.specs.Checks.{Checked, refused}
 use Rattle.feeding_safety.proofs.Places.{tree-place-is, pair-place-is, fault-place-is}
@@ -48,12 +48,6 @@ module _ {load capacity flags from to head next far closed : List ℕ} {E K : �
 
   abbrev config : Config
   config = closedIn closed
-
-  pub ends : EndsBelow 64 from to closed K
-  ends = grid-ends E K load capacity flags from to closed (ok .formed) (ok .elements-fit) (ok .from-long) (ok .to-long) (ok .lent .closed-long)
-
-  pub flags-reach : Reach flags E
-  flags-reach = record { fit = omega (arith, ok .elements-fit); long = ok .flags-long }
 
   fit96 : E ≤ 96
   fit96 = omega (arith, ok .elements-fit)
@@ -84,8 +78,11 @@ module _ {load capacity flags from to head next far closed : List ℕ} {E K : �
   -- ---- with the parts
 
   module _ {parts : Parts} (parts-is : parts ≡ partsOf from to closed K) where
+    pub label-wide : length (parts .label) ≡ 64
+    label-wide = ap (λ (p : Parts). length (p .label)) parts-is ∙ label-long from to closed K
+
     label-fits : E ≤ length (parts .label)
-    label-fits = omega (arith, ok .elements-fit, ap (λ (p : Parts). length (p .label)) parts-is ∙ label-long from to closed K)
+    label-fits = omega (arith, ok .elements-fit, label-wide)
 
     pub loops-reach : LoopsReach (parts .label) (parts .looped) E
     loops-reach = record {

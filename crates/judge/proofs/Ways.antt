@@ -5,16 +5,20 @@ use mathlib.Core.List.{List}
 use Prim.Native.Nat.{ℕ}
 use lib.ListN.{length, take}
 use Rattle.network.specs.declared.refusal.Refusal.{Refusal}
-use Rattle.network.specs.declared.refusal.Answer.{Answer}
 use Rattle.network.specs.declared.refusal.Answer.the-variants.{Accepted, Refused}
 use Rattle.network.specs.Accepted.{WellFormed}
 use Rattle.file_both.specs.declared.BothRead.{BothRead}
 use Rattle.file_plan.specs.Accepted.{WellFormedPlan}
 use Rattle.file_both.specs.Inputs.{bothInput, bothRead}
 use Rattle.feeding.specs.Networks.{netOf}
-use Rattle.feeding.specs.Acceptance.{Starts, answerTo}
+use Rattle.feeding.specs.Acceptance.{answerTo}
 use Rattle.feeding.proofs.Views.{accepted-starts}
-use Rattle.feeding_acceptance.specs.Reading.{Bytes}
+use Rattle.feeding_acceptance.specs.declared.Admitted.{Admitted}
+use Rattle.feeding_acceptance.specs.Reading.{Bytes, handedOut}
+use Rattle.feeding_acceptance.proofs.Reading.{handed-answer, handed-start}
+use Rattle.feeding_start.specs.declared.Start.{Start}
+use Rattle.feeding_start.specs.Starting.{startOf, startWith, Begun}
+use Rattle.feeding_start.proofs.Starts.{begun-network}
 use Rattle.plan_form.specs.Printing.{stepsOf}
 use Rattle.judge_marks.specs.declared.Mark.{Mark}
 use Rattle.judge_marks.specs.declared.Mark.the-variants as Mark·
@@ -37,27 +41,37 @@ module _ (s : List ℕ) (bytes : Bytes s) (read : BothRead) (is : read ≡ bothR
   unfolding markFor markOfRead markRead
   unread-mark f e = ap (markRead (read .net) (read .plan)) (sym e) ∙ ap markOfRead is
 
-  module _ (ok : read .answer ≡ Accepted) (a : Answer) (start : a ≡ answerTo (read .net)) where
-    accepted-mark : markAccepted (read .net) (read .plan) a ≡ markFor s
+  module _ (ok : read .answer ≡ Accepted) (a : Admitted) (start : a ≡ handedOut (read .net) (answerTo (read .net))) where
+    answer-is : a .answer ≡ answerTo (read .net)
+    answer-is = ap (λ (x : Admitted). x .answer) start ∙ handed-answer (read .net) (answerTo (read .net))
+
+    accepted-mark : markAccepted (read .net) (read .plan) (a .answer) ≡ markFor s
     unfolding markFor markOfRead markRead
     accepted-mark =
-        ap (markAccepted (read .net) (read .plan)) start ∙ ap (markRead (read .net) (read .plan)) (sym ok) ∙ ap markOfRead is
+        ap (markAccepted (read .net) (read .plan)) answer-is ∙ ap (markRead (read .net) (read .plan)) (sym ok) ∙ ap markOfRead is
 
-    pub unaccepted-mark : (f : Refusal) → a ≡ Refused f → Mark·.Refused f ≡ markFor s
+    pub unaccepted-mark : (f : Refusal) → a .answer ≡ Refused f → Mark·.Refused f ≡ markFor s
     unfolding markAccepted
     unaccepted-mark f e = ap (markAccepted (read .net) (read .plan)) (sym e) ∙ accepted-mark
 
-    pub plan-mark : a ≡ Accepted → (m : Mark) → m ≡ markOf (netOf (read .net)) (stepsOf (read .plan)) → m ≡ markFor s
-    unfolding markAccepted
-    plan-mark e m h = h ∙ ap (markAccepted (read .net) (read .plan)) (sym e) ∙ accepted-mark
+    -- the start is the network's own
+    start-is : a .answer ≡ Accepted → a .start ≡ startOf (read .net)
+    start-is e = ap (λ (x : Admitted). x .start) start ∙ handed-start (read .net) (answerTo (read .net)) (sym answer-is ∙ e)
 
-    pub read-starts : a ≡ Accepted → WellFormed (read .net) × Starts (netOf (read .net))
-    read-starts e =
+    pub plan-mark : a .answer ≡ Accepted → (m : Mark) → m ≡ markOf (netOf (a .start .net)) (stepsOf (read .plan)) → m ≡ markFor s
+    unfolding markAccepted startWith
+    plan-mark e m h =
+        h ∙ ap (λ (x : Start). markOf (netOf (x .net)) (stepsOf (read .plan))) (start-is e)
+        ∙ ap (markAccepted (read .net) (read .plan)) (sym e) ∙ accepted-mark
+
+    pub read-begun : a .answer ≡ Accepted → Begun (a .start)
+    read-begun e =
         let w = both-formed s bytes read is ok .net in
-        (w, accepted-starts (read .net) w (sym start ∙ e))
+        subst Begun (sym (start-is e)) (begun-network (read .net) w (accepted-starts (read .net) w (sym answer-is ∙ e)))
 
-    pub read-plan : WellFormedPlan (read .net .links) (read .plan)
-    read-plan = both-formed s bytes read is ok .plan
+    pub read-plan : a .answer ≡ Accepted → WellFormedPlan (a .start .net .links) (read .plan)
+    unfolding startWith
+    read-plan e = subst (λ (x : Start). WellFormedPlan (x .net .links) (read .plan)) (sym (start-is e)) (both-formed s bytes read is ok .plan)
 
   pub read-network : read .answer ≡ Accepted → WellFormed (read .net)
   read-network ok = both-formed s bytes read is ok .net

@@ -23,10 +23,11 @@ pub fn mark_of(s: &[u8]) -> Mark
     match answer {
         Answer::Refused(refusal) => Mark::Refused(refusal),
         Answer::Accepted => {
-            let start = accept(net);
-            match start {
+            let admitted = accept(net);
+            let verdict = admitted.answer;
+            match verdict {
                 Answer::Refused(refused) => Mark::Refused(refused),
-                Answer::Accepted => marked(net, plan),
+                Answer::Accepted => marked(admitted.start, plan),
             }
         }
     }

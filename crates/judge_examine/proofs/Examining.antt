@@ -16,7 +16,6 @@ use Rattle.file_plan.specs.declared.plan.Plan.{Plan}
 use Rattle.file_plan.specs.Accepted.{WellFormedPlan}
 use Rattle.file_writer.specs.Writing.{stateNumber}
 use Rattle.file_writer.proofs.RoundTrip.{state-small}
-use Rattle.feeding.specs.Acceptance.{Starts}
 use Rattle.feeding.specs.Below.{bits}
 use Rattle.feeding.specs.Networks.{Grid, Net, Formed, netOf, gridOf, at, isIn}
 use Rattle.feeding.specs.Parts.{Config, closedIn}
@@ -27,9 +26,8 @@ use Rattle.feeding.proofs.Bits.{at-bits, length-bits}
 use Rattle.feeding.proofs.Decided.{safety-safe, safe-safety, safe?-sound, safe?-complete}
 use Rattle.feeding.proofs.States.{safety-same}
 use Rattle.feeding.proofs.Views.{formed-net}
-use Rattle.feeding_sets.specs.Sets.{oneOf}
 use Rattle.feeding_restoration.proofs.Reach.{bits-long}
-use Rattle.feeding_restoration.proofs.Sets.{closed-at}
+use Rattle.feeding_restoration.proofs.Sets.{set-at}
 use Rattle.plan_form.specs.Printing.{stepsOf}
 use Rattle.plan_form.proofs.Steps.{LinksBelow}
 use Rattle.judge_marks.specs.declared.BadStep.{BadStep}
@@ -102,20 +100,21 @@ pub record Examining (n : Network) (operable : List ℕ) (p : Plan) (closed : Li
   pub rest : laterExamined n operable p closed (i + 1) i ≡ allExamined n operable p
 
 module _ (n : Network) (w : WellFormed n) (operable : List ℕ) (p : Plan) (v : WellFormedPlan (n .links) p) where
-  pub first-turn : Starts (netOf n) → (closed : List ℕ) → closed ≡ bits 96 (n .links) (oneOf (n .form) 0 2) → Examining n operable p closed 0
+  pub first-turn : Safe (netOf n .grid) (netOf n .startClosed) → (closed : List ℕ) → closed ≡ bits 96 (n .links) (netOf n .startClosed)
+      → Examining n operable p closed 0
   unfolding netOf gridOf
-  first-turn starts closed e =
+  first-turn safe closed e =
       record {
         at-most = omega arith;
-        long = bits-long closed (n .links) (oneOf (n .form) 0 2) e;
-        small = bits-small 96 (n .links) (oneOf (n .form) 0 2) closed e;
+        long = bits-long closed (n .links) _ e;
+        small = bits-small 96 (n .links) _ closed e;
         safe = safe?-sound (netOf n .grid) (formed-net n w) (closedIn closed)
-            (safe-same (netOf n .grid) (formed-net n w) (closedIn closed) (netOf n .startClosed) (closed-at n w closed e)
-            ∙ safe?-complete (netOf n .grid) (formed-net n w) (netOf n .startClosed) (starts .safe));
+            (safe-same (netOf n .grid) (formed-net n w) (closedIn closed) (netOf n .startClosed) (set-at n w (n .links) _ closed (w .links-fit) e)
+            ∙ safe?-complete (netOf n .grid) (formed-net n w) (netOf n .startClosed) safe);
         rest =
             ap (stepsExamined (netOf n) (isIn operable) (closedIn closed) 1) (all-left p)
             ∙ examined-same (netOf n) (formed-net n w) (isIn operable) (isIn operable) (λ _ _. refl) (closedIn closed) (netOf n .startClosed)
-            (closed-at n w closed e) 1 (stepsOf p) (steps-below (n .links) p v);
+            (set-at n w (n .links) _ closed (w .links-fit) e) 1 (stepsOf p) (steps-below (n .links) p v);
       }
 
   -- every step was good

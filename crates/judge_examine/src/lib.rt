@@ -1,6 +1,5 @@
 // A submitted plan examined step by step, each step by the parts that it touches: its first bad step, and the lowest reason that fits.
-use feeding_ends::own_ends;
-use feeding_sets::members_of;
+use feeding_start::Start;
 use feeding_walks::packed_ends;
 use feeding_walks::packed_rating;
 use file_plan::plan::Plan;
@@ -10,16 +9,13 @@ use judge_marks::BadStep;
 use judge_marks::Examined;
 use judge_marks::Reason;
 use judge_steps::state_of;
-use network::Network;
 ghost use mathlib.Core.Path.{_≡_};
 ghost use mathlib.Core.Bool.{not};
 ghost use lib.Dec.{eqb};
-ghost use lib.ListN.{length, set};
-ghost use Prim.Native.Nat.{_≤_};
-ghost use Rattle.network.specs.Accepted.{WellFormed};
+ghost use lib.ListN.{set};
 ghost use Rattle.file_plan.specs.Accepted.{WellFormedPlan};
-ghost use Rattle.feeding.specs.Acceptance.{Starts};
 ghost use Rattle.feeding.specs.Networks.{netOf, at, isIn};
+ghost use Rattle.feeding_start.specs.Starting.{Searchable};
 ghost use Rattle.plan_form.specs.Printing.{stepsOf};
 ghost use Rattle.judge_marks.specs.declared.Examined.the-variants.{AllGood, Bad};
 ghost use Rattle.judge_marks.specs.Marks.{examined, stepsExamined};
@@ -69,25 +65,21 @@ fn examine_step<'a>(
     bad_step(step, Reason::Unsafe)
 }
 
-// Whether all steps are good, or the first that is not; operable[l] is 1 for an operable switch.
-pub fn examine(net: Network, operable: &[u8], plan: Plan) -> Examined
-    requires { ⌜ WellFormed net × Starts (netOf net) ⌝ }
-    requires { ⌜ net .links ≤ length (now operable) ⌝ }
-    requires { ⌜ WellFormedPlan (net .links) plan ⌝ }
-    ensures { λ r. ⌜ r ≡ stepsExamined (netOf net) (isIn (now (operable .entry))) (netOf net .startClosed) 1 (stepsOf plan) ⌝ }
+// Whether all steps are good, or the first that is not.
+pub fn examine(start: Start, plan: Plan) -> Examined
+    requires { ⌜ Searchable start ⌝ }
+    requires { ⌜ WellFormedPlan (start .net .links) plan ⌝ }
+    ensures { λ r. ⌜ r ≡ stepsExamined (netOf (start .net)) (isIn (start .operable)) (netOf (start .net) .startClosed) 1 (stepsOf plan) ⌝ }
 {
+    let net = start.net;
     let load = net.load;
     let capacity = net.capacity;
     let flags = net.flags;
-    let from = net.from;
-    let to = net.to;
-    let form = net.form;
-    let all: [u8; 96] = [1; 96];
-    let own = own_ends(&from, &to, &all, net.links);
-    let chain = packed_ends(own);
+    let operable = start.operable;
+    let chain = packed_ends(start.own);
     let rating = packed_rating(&load, &capacity);
     let mut sign = signs_of(&flags);
-    let mut closed = members_of(&form, 0, 2, net.links);
+    let mut closed = start.closed;
     let count = plan.steps as usize;
     let mut i: usize = 0;
     while i < count {

@@ -16,7 +16,7 @@ use Rattle.feeding.specs.Safety.{Safe}
 use Rattle.feeding.proofs.Below.{and-left, and-right, and-both, not-in, not-out}
 use Rattle.feeding.proofs.Lows.{lowest-is, lowest-map, lowest-unique, none-place}
 use Rattle.feeding.proofs.Tests.{live?-in, live?-out, dark-out, restorable?-in, restorable?-out, operable?-in, operable?-out}
-use Rattle.plan_problem.specs.Choosing.{CostsLeastBy, CostsLeast, NoneCheaperBy, NoneCheaper, PromisedBy, Promised, Choice, nothing, chosen, planned}
+use Rattle.plan_problem.specs.Choosing.{CostsLeastBy, CostsLeast, NoneCheaperBy, NoneCheaper, PromisedBy, Promised, Choice, nothing, chosen, planned, printedPlan}
 use Rattle.plan_problem.proofs.Choices.{PromisedChoice, planned-promised, cheapest-unique, promised-least}
 use Rattle.judge_marks.specs.declared.BadStep.{BadStep}
 use Rattle.judge_marks.specs.declared.Examined.{Examined}
@@ -174,10 +174,10 @@ module _ (net : Net) (formed : Formed (net .grid)) where
 
   module _ (start-safe : Safe (net .grid) (net .startClosed)) where
     pub cheapest-least : (q : List Step) → ValidPlan net q → CostsLeast net (cheapestCost net)
-    unfolding cheapestCost costIn
+    unfolding cheapestCost costIn printedPlan
     cheapest-least q v = go (planned net) (planned-promised net formed start-safe)
       where
-        go : (x : Choice) → PromisedChoice net x → CostsLeast net (costIn net x)
+        go : (x : Choice) → PromisedChoice net x → CostsLeast net (costIn net (printedPlan net x))
         go nothing p = absurd (p q v)
         go (chosen D) p =
             subst (CostsLeast net) (p .own) (promised-least net (Operable net) (Restored net) (costOf net) (printedForm net D) _ p)

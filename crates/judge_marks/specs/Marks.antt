@@ -11,8 +11,8 @@ use Rattle.feeding.specs.Networks.{Net}
 use Rattle.feeding.specs.Parts.{Config, Live, live?}
 use Rattle.feeding.specs.Safety.{Safe, safe?}
 use Rattle.feeding.specs.Restoration.{Restorable, Operable, Restored, restorable?, operable?}
-use Rattle.feeding.specs.Plans.{Step, Good, Valid, put, run, differ, costOf, printedForm}
-use Rattle.plan_problem.specs.Choosing.{CostsLeastBy, Choice, nothing, chosen, planned}
+use Rattle.feeding.specs.Plans.{Step, Good, Valid, put, run, differ, costOf}
+use Rattle.plan_problem.specs.Choosing.{CostsLeastBy, Planning, unplanned, by, planning}
 use Rattle.judge_marks.specs.declared.Reason.{Reason}
 use Rattle.judge_marks.specs.declared.Reason.the-variants.{NotOperable, AlreadySo, Unsafe}
 use Rattle.judge_marks.specs.declared.BadStep.{BadStep}
@@ -124,12 +124,12 @@ markBy net op price cheapest q = markAfter net (scoredBy price cheapest q) q (st
 -- ---- document 01
 
 -- the cost of the cheapest valid plan; 0 where there is none, and then no list of steps comes so far
-unfoldable pub costIn : Net → Choice → ℕ
-costIn net nothing = 0
-costIn net (chosen D) = costOf net (printedForm net D)
+unfoldable pub costIn : Net → Planning → ℕ
+costIn net unplanned = 0
+costIn net (by q) = costOf net q
 
 unfoldable pub cheapestCost : Net → ℕ
-cheapestCost net = costIn net (planned net)
+cheapestCost net = costIn net (planning net)
 
 abbrev pub scored : Net → List Step → Mark
 scored net q = scoredBy (costOf net) (cheapestCost net) q

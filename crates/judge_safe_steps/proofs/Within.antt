@@ -82,7 +82,7 @@ module _ (g : Grid) (formed : Formed g) (c : Config) (bridges : Bridges g c)
         arith,
         m .low,
         own-low g c (m .depth) e via,
-        above-in g e (elementLoad g c (m .depth) e via) (omega (arith, ltb-true (g .capacity e) (loadAt g c e via) t, load-is m)),
+        above-in g e (elementLoad g c (m .depth) e via) (λ x. omega (arith, ltb-true (g .capacity e) (loadAt g c e via) t, load-is m)),
         fed-in g c formed f,
         ltb-false (elementOver g c (2 * g .E) s (g .K)) (g .E) (not-true _ h),
       ))

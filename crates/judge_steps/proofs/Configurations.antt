@@ -21,9 +21,8 @@ use Rattle.feeding.specs.Plans.{Step, put, run}
 use Rattle.feeding.specs.Restoration.{restorable?}
 use Rattle.feeding.proofs.Lows.{lowest-ext}
 use Rattle.feeding.proofs.States.{live-same}
-use Rattle.feeding_sets.specs.Sets.{oneOf}
 use Rattle.feeding_restoration.proofs.Reach.{bits-long}
-use Rattle.feeding_restoration.proofs.Sets.{closed-at}
+use Rattle.feeding_restoration.proofs.Sets.{set-at}
 use Rattle.plan_form.specs.Printing.{stepsOf}
 use Rattle.plan_form.proofs.Steps.{LinksBelow}
 use Rattle.judge_marks.specs.Marks.{darkPlace}
@@ -73,13 +72,13 @@ dark-same net c c′ same =
 -- ---- what is dark in the states that a plan's steps leave
 
 pub finished-dark : (n : Network) (p : Plan) (start closed : List ℕ) → WellFormed n → WellFormedPlan (n .links) p
-    → start ≡ bits 96 (n .links) (oneOf (n .form) 0 2) → closed ≡ statesRun start (stepsOf p)
+    → start ≡ bits 96 (n .links) (netOf n .startClosed) → closed ≡ statesRun start (stepsOf p)
     → darkPlace (netOf n) (closedIn closed) ≡ darkPlace (netOf n) (run (netOf n .startClosed) (stepsOf p))
 unfolding netOf gridOf
 finished-dark n p start closed w v s e =
     ap (λ (xs : List ℕ). darkPlace (netOf n) (closedIn xs)) e ∙ ap (darkPlace (netOf n)) (states-run start (stepsOf p) inside)
     ∙ dark-same (netOf n) (run (closedIn start) (stepsOf p)) (run (netOf n .startClosed) (stepsOf p))
-    (run-same (n .links) (closedIn start) (netOf n .startClosed) (stepsOf p) (closed-at n w start s))
+    (run-same (n .links) (closedIn start) (netOf n .startClosed) (stepsOf p) (set-at n w (n .links) _ start (w .links-fit) s))
   where
     inside : LinksBelow (length start) (stepsOf p)
-    inside = rw (bits-long start (n .links) (oneOf (n .form) 0 2) s) (steps-below 96 p (plan-in n p w v))
+    inside = rw (bits-long start (n .links) _ s) (steps-below 96 p (plan-in n p w v))

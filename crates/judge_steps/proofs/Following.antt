@@ -12,12 +12,11 @@ use Rattle.file_plan.specs.declared.plan.Plan.{Plan}
 use Rattle.file_writer.specs.Writing.{stateNumber}
 use Rattle.feeding.specs.Below.{bits, lowest}
 use Rattle.feeding.specs.Networks.{netOf, gridOf, at, isIn}
-use Rattle.feeding.specs.Parts.{closedIn, label, joined?, sound?, live?}
+use Rattle.feeding.specs.Parts.{closedIn, live?}
 use Rattle.feeding.specs.Plans.{Step, costOf}
 use Rattle.feeding.specs.Restoration.{restorable?}
 use Rattle.feeding.proofs.Lows.{lowest-ext}
 use Rattle.feeding_sets.specs.Sets.{butNot}
-use Rattle.feeding_restoration.specs.Living.{liveIn}
 use Rattle.feeding_restoration.proofs.Sets.{set-at, fits}
 use Rattle.plan_form.specs.Printing.{stepsOf}
 use Rattle.judge_marks.specs.Marks.{darkPlace}
@@ -91,11 +90,11 @@ module _ (p : Plan) (cost : List ℕ) where
 -- ---- what is still dark
 
 pub dark-found : (n : Network) → WellFormed n → (closed live restorable waiting : List ℕ)
-    → live ≡ bits 96 (n .elements) (liveIn (n .elements) (n .links) (n .flags) (n .from) (n .to) closed)
+    → live ≡ bits 96 (n .elements) (live? (netOf n .grid) (closedIn closed))
     → restorable ≡ bits 96 (n .elements) (restorable? (netOf n))
     → waiting ≡ bits 96 (n .elements) (butNot restorable live)
     → lowest (n .elements) (isIn waiting) ≡ darkPlace (netOf n) (closedIn closed)
-unfolding darkPlace netOf gridOf butNot liveIn live? sound? joined? label
+unfolding darkPlace netOf gridOf butNot
 dark-found n w closed live restorable waiting live-is restorable-is waiting-is =
     lowest-ext (n .elements) _ _ (λ e k.
     set-at n w (n .elements) _ waiting (fits n w) waiting-is e k

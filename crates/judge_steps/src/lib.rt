@@ -1,7 +1,7 @@
 // A submitted plan carried out: the states that it leads to, its cost, and what is still dark then.
-use feeding_restoration::live_elements;
-use feeding_restoration::restorable_elements;
+use feeding_restoration::joined_to;
 use feeding_sets::except;
+use feeding_start::Start;
 use file_plan::plan::Plan;
 use network::Network;
 ghost use mathlib.Core.Path.{_≡_};
@@ -16,6 +16,7 @@ ghost use Rattle.feeding.specs.Parts.{closedIn};
 ghost use Rattle.feeding.specs.Plans.{costOf};
 ghost use Rattle.plan_form.specs.Printing.{stepsOf};
 ghost use Rattle.judge_marks.specs.Marks.{darkPlace};
+ghost use Rattle.feeding_start.specs.Starting.{Begun};
 ghost use Rattle.judge_steps.specs.States.{statesRun};
 
 // 1 for closed.
@@ -78,16 +79,17 @@ fn lowest_member(has: &[u8], count: usize) -> usize
 }
 
 // The lowest restorable element that is dark in a configuration, or the count of elements.
-pub fn lowest_dark(net: Network, closed: &[u8]) -> usize
-    requires { ⌜ WellFormed net ⌝ }
+pub fn lowest_dark(start: Start, closed: &[u8]) -> usize
+    requires { ⌜ Begun start ⌝ }
     requires { ⌜ length (now closed) ≡ 96 ⌝ }
-    ensures { λ r. ⌜ r ≡ darkPlace (netOf net) (closedIn (now (closed .entry))) ⌝ }
+    ensures { λ r. ⌜ r ≡ darkPlace (netOf (start .net)) (closedIn (now (closed .entry))) ⌝ }
 {
-    let flags = net.flags;
+    let net = start.net;
     let from = net.from;
     let to = net.to;
-    let live = live_elements(&flags, &from, &to, closed, net.elements, net.links);
-    let restorable = restorable_elements(net);
+    let sound = start.sound;
+    let restorable = start.restorable;
+    let live = joined_to(&from, &to, closed, &sound, net.elements, net.links);
     let waiting = except(&restorable, &live, net.elements);
     lowest_member(&waiting, net.elements)
 }

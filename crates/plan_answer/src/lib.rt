@@ -1,31 +1,23 @@
-// What a network file is answered: the outcome of the cheapest set.
+// What a network file is answered: the outcome of the cheapest plan.
 use feeding_acceptance::read_accepted;
+use feeding_start::Start;
 use file_plan::plan::Plan;
-use network::Network;
 use network::refusal::Answer;
-use plan_cheapest::cheapest_set;
+use plan_found::cheapest_plan;
 use plan_outcome::Outcome;
 use plan_outcome::Reply;
-use plan_outcome::with_plan;
-use plan_outcome::without_plan;
-use plan_problem::Best;
+use plan_outcome::outcome_of;
 ghost use mathlib.Core.Path.{_≡_};
-ghost use Rattle.network.specs.Accepted.{WellFormed};
-ghost use Rattle.feeding.specs.Networks.{netOf};
-ghost use Rattle.feeding.specs.Acceptance.{Starts};
+ghost use Rattle.feeding_start.specs.Starting.{Begun};
 ghost use Rattle.plan_outcome.specs.Outcomes.{outcomeOf, outcome};
 
 // What an accepted network is answered.
-fn solve(net: Network) -> Outcome
-    requires { ⌜ WellFormed net ⌝ }
-    requires { ⌜ Starts (netOf net) ⌝ }
-    ensures { λ r. ⌜ r ≡ outcomeOf net ⌝ }
+fn solve(start: Start) -> Outcome
+    requires { ⌜ Begun start ⌝ }
+    ensures { λ r. ⌜ r ≡ outcomeOf (start .net) ⌝ }
 {
-    let best = cheapest_set(net);
-    if best.cost < Best::NO_SET {
-        return with_plan(net, best.cost, best.set);
-    }
-    without_plan(net)
+    let found = cheapest_plan(start);
+    outcome_of(start, found)
 }
 
 // What a network file is answered.
@@ -34,9 +26,8 @@ pub fn answer(s: &[u8]) -> Outcome
 {
     let read = read_accepted(s);
     let verdict = read.answer;
-    let net = read.net;
     match verdict {
-        Answer::Accepted => solve(net),
+        Answer::Accepted => solve(read.start),
         Answer::Refused(refusal) => {
             let plan = Plan::empty();
             Outcome {

@@ -9,10 +9,8 @@ use lib.Dec.{eqb}
 use lib.ListN.{length}
 use Rattle.network.specs.declared.Network.{Network}
 use Rattle.network.specs.Accepted.{WellFormed}
-use Rattle.feeding.specs.Acceptance.{Starts}
-use Rattle.feeding.specs.Networks.{netOf, at, isIn}
+use Rattle.feeding.specs.Networks.{netOf, gridOf, at, isIn}
 use Rattle.feeding.specs.Parts.{closedIn}
-use Rattle.feeding.specs.Restoration.{operables}
 use Rattle.feeding.proofs.Lows.{those-out}
 use Rattle.feeding.proofs.Views.{formed-net}
 use Rattle.feeding_loads.specs.Walks.{walkGrid}
@@ -20,7 +18,6 @@ use Rattle.feeding_walks.specs.Packing.{packedGrid}
 use Rattle.plan_problem.specs.declared.Best.{Best}
 use Rattle.plan_problem.specs.Sets.{keep, priceOf, scan}
 use Rattle.plan_stops.proofs.Carried.{CarriedParts}
-use Rattle.plan_stops.specs.Candidates.{based}
 use Rattle.plan_problem.proofs.Rising.{at-member}
 use Rattle.plan_problem.proofs.Scans.{keep-dear, scan-ext}
 use Rattle.feeding_sets.specs.Sets.{members}
@@ -31,50 +28,65 @@ use Rattle.plan_setting.specs.Setting.{Setting, settingIn, Columns, Packed, Set
 use Rattle.plan_setting.proofs.Filling.{few-members}
 use Rattle.plan_setting.proofs.Settled.{settled}
 use Rattle.plan_stops.specs.Searching.{dearer}
-use Rattle.plan_stops.proofs.Searched.{searched-operable}
+use Rattle.plan_stops.proofs.Searched.{searched-restoring}
 use Rattle.plan_stops.proofs.Dearer.{dear-out, dear-goes-on, price-rises}
 use Rattle.plan_search.specs.Searching.{Seeks, Placed, fitsIn, statesBy, visitIn, switchingIn, soughtIn}
-use Rattle.plan_candidates.specs.declared.Start.{Start}
-use Rattle.plan_candidates.specs.Candidates.{asksOf, candidatesOf, suppliedCandidate?, soundIn, fittingIn, Walked, Started}
+use Rattle.feeding_start.specs.declared.Start.{Start}
+use Rattle.feeding_start.specs.Starting.{operableIn, Searchable}
+use Rattle.plan_candidates.specs.declared.Origin.{Origin}
+use Rattle.plan_candidates.specs.Candidates.{asksOf, basedOn, candidatesOf, suppliedCandidate?, fittingIn, Walked, Founded}
 use Rattle.plan_candidates.proofs.Sources.{walks-listed}
 
-module _ (n : Network) (w : WellFormed n) (starts : Starts (netOf n)) (sw : Switches) (sw-is : sw ≡ switchList n (operables (netOf n))) where
-  few : length (operables (netOf n)) ≤ 16
-  few = omega (arith, starts .few)
+module _ (st : Start) (ok : Searchable st) (sw : Switches) (sw-is : sw ≡ switchList (st .net) (operableIn st)) where
+  abbrev n : Network
+  n = st .net
 
-  count-is : sw .count ≡ length (operables (netOf n))
-  count-is = ap (λ (x : Switches). x .count) sw-is ∙ States.count-is n w
+  abbrev w : WellFormed n
+  w = ok .formed
+
+  abbrev op : ℕ → Bool
+  op = isIn (st .operable)
+
+  abbrev few : length (operableIn st) ≤ 16
+  few = ok .few
+
+  count-is : sw .count ≡ length (operableIn st)
+  count-is = ap (λ (x : Switches). x .count) sw-is ∙ States.count-is n w op (ok .switches)
+
+  inside : (l : ℕ) → op l ≡ true → l < netOf n .grid .K
+  unfolding netOf gridOf
+  inside = ok .inside
 
   -- what packing them asks
   pub columns : Columns sw
   unfolding switchList netOf
   columns = subst Columns (sym sw-is) of-list
     where
-      of-list : Columns (switchList n (operables (netOf n)))
+      of-list : Columns (switchList n (operableIn st))
       of-list = record {
-        reach = States.link-reach n w few;
-        from-in = λ i k. States.from-below n w i;
-        to-in = λ i k. States.to-below n w i;
-        closed-bit = λ i k. States.closed-bit n w i;
-        price-in = λ i k. omega (arith, States.price-at n w few i k, w .cost-in (at (operables (netOf n)) i) (States.operable-in n w i k .0));
+        reach = States.link-reach n w op (ok .switches) few;
+        from-in = λ i k. States.from-below n w op (ok .switches) i;
+        to-in = λ i k. States.to-below n w op (ok .switches) i;
+        closed-bit = λ i k. States.closed-bit n w op (ok .switches) i;
+        price-in = λ i k. omega (arith, States.price-at n w op (ok .switches) few i k, w .cost-in (at (operableIn st) i) (States.operable-in n w op (ok .switches) i k .0));
       }
 
   -- the setting that was packed
-  module _ {fixed : List ℕ} (sound : List ℕ) {want : ℕ} (p : Packed fixed sw (members sound (n .elements)) want (n .elements) (n .links)) (chain rating : List ℕ) where
+  module _ {fixed : List ℕ} {want : ℕ} (p : Packed fixed sw (members (st .sound) (n .elements)) want (n .elements) (n .links)) (chain rating : List ℕ) where
     abbrev B : Setting
     B = settingIn fixed chain rating
 
-    in-count : (i : ℕ) → i < length (operables (netOf n)) → i < sw .count
+    in-count : (i : ℕ) → i < length (operableIn st) → i < sw .count
     in-count i k = omega (arith, count-is)
 
-    from-at : (i : ℕ) → i < length (operables (netOf n)) → at fixed i ≡ netOf n .grid .endA (at (operables (netOf n)) i)
-    from-at i k = p .from-at i (in-count i k) ∙ ap (λ (x : Switches). at (x .from) i) sw-is ∙ States.from-at n w few i k
+    from-at : (i : ℕ) → i < length (operableIn st) → at fixed i ≡ netOf n .grid .endA (at (operableIn st) i)
+    from-at i k = p .from-at i (in-count i k) ∙ ap (λ (x : Switches). at (x .from) i) sw-is ∙ States.from-at n w op (ok .switches) few i k
 
-    to-at : (i : ℕ) → i < length (operables (netOf n)) → at fixed (16 + i) ≡ netOf n .grid .endB (at (operables (netOf n)) i)
-    to-at i k = p .to-at i (in-count i k) ∙ ap (λ (x : Switches). at (x .to) i) sw-is ∙ States.to-at n w few i k
+    to-at : (i : ℕ) → i < length (operableIn st) → at fixed (16 + i) ≡ netOf n .grid .endB (at (operableIn st) i)
+    to-at i k = p .to-at i (in-count i k) ∙ ap (λ (x : Switches). at (x .to) i) sw-is ∙ States.to-at n w op (ok .switches) few i k
 
-    shut-at : (i : ℕ) → i < length (operables (netOf n)) → eqb (at fixed (32 + i)) 1 ≡ netOf n .startClosed (at (operables (netOf n)) i)
-    shut-at i k = ap (λ (x : ℕ). eqb x 1) (p .closed-at i (in-count i k)) ∙ ap (λ (x : Switches). isIn (x .closed) i) sw-is ∙ States.closed-at n w few i k
+    shut-at : (i : ℕ) → i < length (operableIn st) → eqb (at fixed (32 + i)) 1 ≡ netOf n .startClosed (at (operableIn st) i)
+    shut-at i k = ap (λ (x : ℕ). eqb x 1) (p .closed-at i (in-count i k)) ∙ ap (λ (x : Switches). isIn (x .closed) i) sw-is ∙ States.closed-at n w op (ok .switches) few i k
 
     -- what a set leaves and costs, by the switches themselves
     states-by : (s : ℕ) (left : List ℕ) → statesBy (settingIn fixed chain rating) (at fixed 144) s left ≡ withSet (at (sw .link)) (at (sw .closed)) (sw .count) s left
@@ -89,22 +101,22 @@ module _ (n : Network) (w : WellFormed n) (starts : Starts (netOf n)) (sw : Swit
         ∙ ap (λ (m : ℕ). priceOf (at (sw .price)) m s) (p .count-is)
 
     -- the walks from the list
-    fits-by : sound ≡ soundIn n → (s : ℕ) (left : List ℕ) → fitsIn (settingIn fixed chain rating) (statesBy (settingIn fixed chain rating) (at fixed 144) s left) ≡ fittingIn n sw left chain rating s
+    fits-by : (s : ℕ) (left : List ℕ) → fitsIn (settingIn fixed chain rating) (statesBy (settingIn fixed chain rating) (at fixed 144) s left) ≡ fittingIn st sw left chain rating s
     unfolding fitsIn fittingIn walkGrid
-    fits-by sound-is s left = rw (p .elements-are, p .links-are, states-by s left, ← sound-is)
-        (walks-listed (packedGrid (n .elements) (n .links) chain rating) (closedIn (withSet (at (sw .link)) (at (sw .closed)) (sw .count) s left)) sound
+    fits-by s left = rw (p .elements-are, p .links-are, states-by s left)
+        (walks-listed (packedGrid (n .elements) (n .links) chain rating) (closedIn (withSet (at (sw .link)) (at (sw .closed)) (sw .count) s left)) (st .sound)
         (at fixed 146) _ (p .sources-are) (λ j k. rw (p .source-at j (omega (arith, p .sources-are)))))
 
     pub setting-settled : want ≤ 64 → Settled (settingIn fixed chain rating)
     unfolding members
-    setting-settled little = settled fixed chain rating sw (members sound (n .elements)) want (n .elements) (n .links) p columns little (w .elements-fit) (w .links-fit)
-        (omega (arith, few-members sound (n .elements), w .elements-fit)) inside
+    setting-settled little = settled fixed chain rating sw (members (st .sound) (n .elements)) want (n .elements) (n .links) p columns little (w .elements-fit) (w .links-fit)
+        (omega (arith, few-members (st .sound) (n .elements), w .elements-fit)) inside
       where
-        inside : (j : ℕ) → j < length (members sound (n .elements)) → at (members sound (n .elements)) j < n .elements
-        inside j k = those-out (n .elements) (isIn sound) (at (members sound (n .elements)) j) (at-member (members sound (n .elements)) j k) .0
+        inside : (j : ℕ) → j < length (members (st .sound) (n .elements)) → at (members (st .sound) (n .elements)) j < n .elements
+        inside j k = those-out (n .elements) (isIn (st .sound)) (at (members (st .sound) (n .elements)) j) (at-member (members (st .sound) (n .elements)) j k) .0
 
-    module _ (start : Start) (from : Started n start) (want-is : want ≡ start .waiting) where
-      pub start-seeks : Seeks (settingIn fixed chain rating) (start .label) (start .holds) 0 0 0 0
+    module _ (origin : Origin) (from : Founded st origin) (want-is : want ≡ origin .waiting) where
+      pub start-seeks : Seeks (settingIn fixed chain rating) (origin .label) (origin .holds) 0 0 0 0
       unfolding priceOf
       start-seeks = record {
         reached = omega arith;
@@ -126,22 +138,22 @@ module _ (n : Network) (w : WellFormed n) (starts : Starts (netOf n)) (sw : Swit
       }
 
       -- the theorem: the candidates are tried in turn
-      pub sought : (left : List ℕ) (b : Best) → sound ≡ soundIn n → soughtIn (settingIn fixed chain rating) left 0 0 0 (start .label) (start .holds) (start .spare) b
-          ≡ scan (keep (priceOf (at (sw .price)) (sw .count)) (fittingIn n sw left chain rating)) (candidatesOf (netOf n)) b
+      pub sought : (left : List ℕ) (b : Best) → soughtIn (settingIn fixed chain rating) left 0 0 0 (origin .label) (origin .holds) (origin .spare) b
+          ≡ scan (keep (priceOf (at (sw .price)) (sw .count)) (fittingIn st sw left chain rating)) (candidatesOf (netOf n) op) b
       unfolding soughtIn visitIn candidatesOf suppliedCandidate?
-      sought left b sound-is =
+      sought left b =
           let e : at fixed 144 - 0 ≡ m = omega (arith, p .count-is, count-is) in
           rw e
-          (searched-operable (netOf n) (formed-net n w) (switchingIn B) from-at to-at shut-at (dearer (priceOf (B .price))) (keep price fits)
+          (searched-restoring (netOf n) (formed-net n w) op inside (switchingIn B) from-at to-at shut-at (dearer (priceOf (B .price))) (keep price fits)
           (dear-goes-on (priceOf (B .price)) m (λ j t o _. price-rises (B .price) j t o)) unkept (asksOf (netOf n)) (B .want)
-          (start .label) (start .holds) (start .spare) b carried (from .weighed)
-          ∙ scan-ext price _ fits _ price-by (λ s. fits-by sound-is s left) (candidatesOf (netOf n)) b)
+          (origin .label) (origin .holds) (origin .spare) b carried (from .weighed)
+          ∙ scan-ext price _ fits _ price-by (λ s. fits-by s left) (candidatesOf (netOf n) op) b)
         where
-          carried : CarriedParts (netOf n) (based (netOf n)) (at fixed 145) 0 (start .label) (start .holds)
+          carried : CarriedParts (netOf n) (basedOn st) (at fixed 145) 0 (origin .label) (origin .holds)
           carried = rw (p .want-is, want-is) (from .carried)
 
           m : ℕ
-          m = length (operables (netOf n))
+          m = length (operableIn st)
 
           price : ℕ → ℕ
           price = priceOf (B .price) (B .count)

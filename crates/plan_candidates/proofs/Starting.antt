@@ -10,10 +10,9 @@ use lib.ListN.{length}
 use borrow.Author.Tests.{eqb-true}
 use Rattle.network.specs.declared.Network.{Network}
 use Rattle.network.specs.Accepted.{WellFormed}
-use Rattle.feeding.specs.Acceptance.{Starts}
 use Rattle.feeding.specs.Below.{bits, gate, sumTo}
 use Rattle.feeding.specs.Networks.{Grid, netOf, gridOf, at, isIn}
-use Rattle.feeding.specs.Parts.{Config, closedIn, label, sound?}
+use Rattle.feeding.specs.Parts.{Config, closedIn, label}
 use Rattle.feeding.specs.Restoration.{restorable?}
 use Rattle.feeding.proofs.Below.{eqb-comm, and-left, anyTo-ext}
 use Rattle.feeding.proofs.Decided.{Kept, safe-kept}
@@ -25,51 +24,39 @@ use Rattle.feeding_parts.specs.declared.Parts.{Parts}
 use Rattle.feeding_parts.specs.Labelling.{Falls, rootOf, partsOf}
 use Rattle.feeding_parts.proofs.Grids.{label-le, label-long}
 use Rattle.feeding_parts.proofs.Roots.{root-own, root-up}
-use Rattle.feeding_sets.specs.Sets.{PartsReach, oneOf, partHas}
+use Rattle.feeding_sets.specs.Sets.{PartsReach, partHas}
 use Rattle.feeding_restoration.proofs.Reach.{parts-reach}
 use Rattle.feeding_restoration.proofs.Sets.{set-at, fits}
 use Rattle.feeding_restoration.proofs.Spreads.{label-is}
-use Rattle.plan_stops.specs.Candidates.{radial?, based, openedBy}
+use Rattle.feeding_start.specs.declared.Start.{Start}
+use Rattle.feeding_start.specs.Starting.{Searchable}
+use Rattle.feeding_start.proofs.Starts.{faulty-of, restorable-of}
+use Rattle.plan_stops.specs.Candidates.{radial?, openedBy}
 use Rattle.plan_stops.specs.Holding.{waitsFor}
 use Rattle.plan_stops.proofs.Carried.{CarriedParts, partHas?, partHolds, waitingParts}
 use Rattle.plan_stops.proofs.Radial.{radial-opened}
 use Rattle.plan_holdings.specs.Holdings.{waitingAt, holdingsOf}
-use Rattle.plan_candidates.specs.Candidates.{openedIn, soundIn}
+use Rattle.plan_candidates.specs.Candidates.{openedIn, basedOn}
 use Rattle.plan_candidates.proofs.Arrays.{opened-at, sources-at}
 
 -- what the calls return that the start is made of
-pub record Gathered (n : Network) (base : List ℕ) (parts : Parts) (sound faulty restorable live fault need holds : List ℕ) (total : ℕ) : Type 0 where
-  pub base-is : base ≡ openedIn n
-  pub parts-is : parts ≡ partsOf (n .from) (n .to) base (n .links)
-  pub sound-is : sound ≡ soundIn n
-  pub faulty-is : faulty ≡ bits 96 (n .elements) (oneOf (n .flags) 2 3)
-  pub restorable-is : restorable ≡ bits 96 (n .elements) (restorable? (netOf n))
-  pub live-is : live ≡ bits 96 (n .elements) (partHas (parts .label) sound (n .elements))
-  pub fault-is : fault ≡ bits 96 (n .elements) (partHas (parts .label) faulty (n .elements))
-  pub need-is : need ≡ bits 96 (n .elements) (partHas (parts .label) restorable (n .elements))
+pub record Gathered (st : Start) (base : List ℕ) (parts : Parts) (live fault need holds : List ℕ) (total : ℕ) : Type 0 where
+  pub base-is : base ≡ openedIn st
+  pub parts-is : parts ≡ partsOf (st .net .from) (st .net .to) base (st .net .links)
+  pub live-is : live ≡ bits 96 (st .net .elements) (partHas (parts .label) (st .sound) (st .net .elements))
+  pub fault-is : fault ≡ bits 96 (st .net .elements) (partHas (parts .label) (st .faulty) (st .net .elements))
+  pub need-is : need ≡ bits 96 (st .net .elements) (partHas (parts .label) (st .restorable) (st .net .elements))
   pub holds-is : holds ≡ holdingsOf live fault need
-  pub total-is : total ≡ sumTo (n .elements) (waitingAt (parts .label) holds)
+  pub total-is : total ≡ sumTo (st .net .elements) (waitingAt (parts .label) holds)
 
-pub gathered : (n : Network) {base : List ℕ} {parts : Parts} {sound faulty restorable live fault need holds : List ℕ} {total : ℕ}
-    → base ≡ openedIn n → parts ≡ partsOf (n .from) (n .to) base (n .links) → sound ≡ soundIn n
-    → faulty ≡ bits 96 (n .elements) (oneOf (n .flags) 2 3) → restorable ≡ bits 96 (n .elements) (restorable? (netOf n))
-    → live ≡ bits 96 (n .elements) (partHas (parts .label) sound (n .elements)) → fault ≡ bits 96 (n .elements) (partHas (parts .label) faulty (n .elements))
-    → need ≡ bits 96 (n .elements) (partHas (parts .label) restorable (n .elements)) → holds ≡ holdingsOf live fault need
-    → total ≡ sumTo (n .elements) (waitingAt (parts .label) holds)
-    → Gathered n base parts sound faulty restorable live fault need holds total
-gathered n a b c d e f g h i j =
-    record {
-      base-is = a;
-      parts-is = b;
-      sound-is = c;
-      faulty-is = d;
-      restorable-is = e;
-      live-is = f;
-      fault-is = g;
-      need-is = h;
-      holds-is = i;
-      total-is = j;
-    }
+pub gathered : (st : Start) {base : List ℕ} {parts : Parts} {live fault need holds : List ℕ} {total : ℕ}
+    → base ≡ openedIn st → parts ≡ partsOf (st .net .from) (st .net .to) base (st .net .links)
+    → live ≡ bits 96 (st .net .elements) (partHas (parts .label) (st .sound) (st .net .elements))
+    → fault ≡ bits 96 (st .net .elements) (partHas (parts .label) (st .faulty) (st .net .elements))
+    → need ≡ bits 96 (st .net .elements) (partHas (parts .label) (st .restorable) (st .net .elements)) → holds ≡ holdingsOf live fault need
+    → total ≡ sumTo (st .net .elements) (waitingAt (parts .label) holds)
+    → Gathered st base parts live fault need holds total
+gathered st a b f g h i j = record { base-is = a; parts-is = b; live-is = f; fault-is = g; need-is = h; holds-is = i; total-is = j }
 
 -- ---- what the calls ask
 
@@ -103,17 +90,22 @@ safe-radial : (g : Grid) (c : Config) → Kept g c → radial? g c ≡ true
 unfolding radial?
 safe-radial g c k = rw (k .tree, k .pair, k .fault)
 
-module _ (n : Network) (w : WellFormed n) (starts : Starts (netOf n)) {base : List ℕ} {parts : Parts}
-    {sound faulty restorable live fault need holds : List ℕ} {total : ℕ}
-    (s : Gathered n base parts sound faulty restorable live fault need holds total) where
-  base-at : (l : ℕ) → l < n .links → closedIn base l ≡ based (netOf n) l
-  base-at l k = ap (λ (xs : List ℕ). isIn xs l) (s .base-is) ∙ opened-at n w l k
+module _ (st : Start) (ok : Searchable st) {base : List ℕ} {parts : Parts} {live fault need holds : List ℕ} {total : ℕ}
+    (s : Gathered st base parts live fault need holds total) where
+  abbrev n : Network
+  n = st .net
 
-  pub label-at : (e : ℕ) → e < n .elements → at (parts .label) e ≡ label (netOf n .grid) (based (netOf n)) e
+  abbrev w : WellFormed n
+  w = ok .formed
+
+  base-at : (l : ℕ) → l < n .links → closedIn base l ≡ basedOn st l
+  base-at l k = ap (λ (xs : List ℕ). isIn xs l) (s .base-is) ∙ opened-at st ok l k
+
+  pub label-at : (e : ℕ) → e < n .elements → at (parts .label) e ≡ label (netOf n .grid) (basedOn st) e
   unfolding netOf
   label-at e k =
       ap (λ (p : Parts). at (p .label) e) (s .parts-is)
-      ∙ label-is (n .elements) (n .links) (n .load) (n .capacity) (n .flags) (n .from) (n .to) base (based (netOf n)) (w .elements-fit)
+      ∙ label-is (n .elements) (n .links) (n .load) (n .capacity) (n .flags) (n .from) (n .to) base (basedOn st) (w .elements-fit)
       (λ l kl. (w .from-in l kl, w .to-in l kl)) base-at e k
 
   pub low : (e : ℕ) → at (parts .label) e ≤ e
@@ -126,64 +118,60 @@ module _ (n : Network) (w : WellFormed n) (starts : Starts (netOf n)) {base : Li
   falls e k = low e
 
   -- a label is its own label, so it is the root
-  root-at : (e : ℕ) → e < n .elements → rootOf (parts .label) e ≡ label (netOf n .grid) (based (netOf n)) e
+  root-at : (e : ℕ) → e < n .elements → rootOf (parts .label) e ≡ label (netOf n .grid) (basedOn st) e
   root-at e k = sym (root-up (parts .label) falls e) ∙ root-own (parts .label) (at (parts .label) e) own ∙ label-at e k
     where
       own : at (parts .label) (at (parts .label) e) ≡ at (parts .label) e
       own =
-          label-at (at (parts .label) e) (omega (arith, low e)) ∙ ap (label (netOf n .grid) (based (netOf n))) (label-at e k)
-          ∙ label-of-label (netOf n .grid) (based (netOf n)) e ∙ sym (label-at e k)
+          label-at (at (parts .label) e) (omega (arith, low e)) ∙ ap (label (netOf n .grid) (basedOn st)) (label-at e k)
+          ∙ label-of-label (netOf n .grid) (basedOn st) e ∙ sym (label-at e k)
 
   -- a set spread over the parts, at the label of a part
   part-at : (has spread : List ℕ) (f : ℕ → Bool) → spread ≡ bits 96 (n .elements) (partHas (parts .label) has (n .elements))
-      → ((y : ℕ) → y < n .elements → isIn has y ≡ f y) → (x : ℕ) → x < n .elements → label (netOf n .grid) (based (netOf n)) x ≡ x
-      → isIn spread x ≡ partHas? (netOf n) (based (netOf n)) f x
+      → ((y : ℕ) → y < n .elements → isIn has y ≡ f y) → (x : ℕ) → x < n .elements → label (netOf n .grid) (basedOn st) x ≡ x
+      → isIn spread x ≡ partHas? (netOf n) (basedOn st) f x
   unfolding partHas partHas? netOf gridOf
   part-at has spread f e is x k own =
       set-at n w (n .elements) _ spread (fits n w) e x k
       ∙ anyTo-ext (n .elements) _ _ (λ y ky.
-      ap₂ _&&_ (is y ky) (ap₂ eqb (label-at x k ∙ own) (label-at y ky) ∙ eqb-comm x (label (netOf n .grid) (based (netOf n)) y)))
+      ap₂ _&&_ (is y ky) (ap₂ eqb (label-at x k ∙ own) (label-at y ky) ∙ eqb-comm x (label (netOf n .grid) (basedOn st) y)))
 
-  pub sound-at : (y : ℕ) → y < n .elements → isIn sound y ≡ sound? (netOf n .grid) y
-  sound-at y k = ap (λ (xs : List ℕ). isIn xs y) (s .sound-is) ∙ sources-at n w y k
+  faulty-at : (y : ℕ) → y < n .elements → isIn (st .faulty) y ≡ netOf n .grid .faulty y
+  faulty-at = set-at n w (n .elements) _ (st .faulty) (fits n w) (faulty-of st _ (ok .made))
 
-  faulty-at : (y : ℕ) → y < n .elements → isIn faulty y ≡ netOf n .grid .faulty y
-  unfolding netOf gridOf oneOf
-  faulty-at y k = set-at n w (n .elements) _ faulty (fits n w) (s .faulty-is) y k
+  restorable-at : (y : ℕ) → y < n .elements → isIn (st .restorable) y ≡ restorable? (netOf n) y
+  restorable-at = set-at n w (n .elements) _ (st .restorable) (fits n w) (restorable-of st _ (ok .made))
 
-  restorable-at : (y : ℕ) → y < n .elements → isIn restorable y ≡ restorable? (netOf n) y
-  restorable-at y k = set-at n w (n .elements) _ restorable (fits n w) (s .restorable-is) y k
-
-  holds-at : (x : ℕ) → x < n .elements → label (netOf n .grid) (based (netOf n)) x ≡ x → at holds x ≡ partHolds (netOf n) (based (netOf n)) x
+  holds-at : (x : ℕ) → x < n .elements → label (netOf n .grid) (basedOn st) x ≡ x → at holds x ≡ partHolds (netOf n) (basedOn st) x
   unfolding holdingsOf partHolds
   holds-at x k own =
       ap (λ (xs : List ℕ). at xs x) (s .holds-is) ∙ at-tabulate 64 _ x (omega (arith, w .elements-fit))
       ∙ rw (
-        part-at sound live _ (s .live-is) sound-at x k own,
-        part-at faulty fault _ (s .fault-is) faulty-at x k own,
-        part-at restorable need _ (s .need-is) restorable-at x k own,
+        part-at (st .sound) live _ (s .live-is) (sources-at st ok) x k own,
+        part-at (st .faulty) fault _ (s .fault-is) faulty-at x k own,
+        part-at (st .restorable) need _ (s .need-is) restorable-at x k own,
       )
 
   -- the parts that wait are counted at their labels
-  total-at : waitingParts (netOf n) (based (netOf n)) ≡ total
+  total-at : waitingParts (netOf n) (basedOn st) ≡ total
   unfolding waitingParts waitingAt netOf gridOf
-  total-at = sumTo-ext (n .elements) _ _ (λ x k. go x k (eqb (label (netOf n .grid) (based (netOf n)) x) x) refl) ∙ sym (s .total-is)
+  total-at = sumTo-ext (n .elements) _ _ (λ x k. go x k (eqb (label (netOf n .grid) (basedOn st) x) x) refl) ∙ sym (s .total-is)
     where
-      go : (x : ℕ) → x < n .elements → (t : Bool) → eqb (label (netOf n .grid) (based (netOf n)) x) x ≡ t
-          → gate (eqb (label (netOf n .grid) (based (netOf n)) x) x && waitsFor (partHolds (netOf n) (based (netOf n)) x)) 1
+      go : (x : ℕ) → x < n .elements → (t : Bool) → eqb (label (netOf n .grid) (basedOn st) x) x ≡ t
+          → gate (eqb (label (netOf n .grid) (basedOn st) x) x && waitsFor (partHolds (netOf n) (basedOn st) x)) 1
           ≡ gate (eqb (at (parts .label) x) x && waitsFor (at holds x)) 1
       go x k true t = rw (label-at x k, holds-at x k (eqb-true _ _ t))
       go x k false t = rw (label-at x k, t)
 
   -- opening switches of a safe start leaves it radial
-  pub radial : radial? (netOf n .grid) (based (netOf n)) ≡ true
+  pub radial : radial? (netOf n .grid) (basedOn st) ≡ true
   unfolding openedBy
   radial =
-      radial-opened (netOf n .grid) (formed-net n w) (netOf n .startClosed) (based (netOf n)) (λ l h. and-left (netOf n .startClosed l) _ h)
-      (safe-radial (netOf n .grid) (netOf n .startClosed) (safe-kept (netOf n .grid) (formed-net n w) (netOf n .startClosed) (starts .safe)))
+      radial-opened (netOf n .grid) (formed-net n w) (netOf n .startClosed) (basedOn st) (λ l h. and-left (netOf n .startClosed l) _ h)
+      (safe-radial (netOf n .grid) (netOf n .startClosed) (safe-kept (netOf n .grid) (formed-net n w) (netOf n .startClosed) (ok .safe)))
 
   -- the theorem: labels and holdings stand for the parts of the configuration whose operable switches are open
-  pub starting-carried : CarriedParts (netOf n) (based (netOf n)) total 0 (parts .label) holds
+  pub starting-carried : CarriedParts (netOf n) (basedOn st) total 0 (parts .label) holds
   unfolding netOf gridOf
   starting-carried = record {
     fit = w .elements-fit;

@@ -10,7 +10,6 @@ use lib.ListN.{length, List·getD-eq-default}
 use borrow.Author.Tests.{ltb-true, ltb-false}
 use Rattle.network.specs.declared.Network.{Network}
 use Rattle.network.specs.Accepted.{WellFormed}
-use Rattle.feeding.specs.Acceptance.{Starts}
 use Rattle.feeding.specs.Below.{gate}
 use Rattle.feeding.specs.Networks.{netOf, gridOf, at, isIn}
 use Rattle.feeding.specs.Parts.{Sound, label, sound?}
@@ -21,9 +20,13 @@ use Rattle.feeding.proofs.Tests.{sound?-in, sound?-out}
 use Rattle.feeding.proofs.Views.{formed-net}
 use Rattle.feeding_parts.specs.declared.Parts.{Parts}
 use Rattle.feeding_parts.proofs.Grids.{label-long}
+use Rattle.feeding_restoration.proofs.Reach.{bits-long}
+use Rattle.feeding_start.specs.declared.Start.{Start}
+use Rattle.feeding_start.specs.Starting.{Searchable}
+use Rattle.feeding_start.proofs.Starts.{sound-of}
 use Rattle.plan_stops.specs.Holding.{hasSource, waitsFor}
 use Rattle.plan_stops.proofs.Carried.{partHolds, part-in, holds-source}
-use Rattle.plan_stops.specs.Candidates.{openedBy, based}
+use Rattle.plan_stops.specs.Candidates.{openedBy}
 use Rattle.plan_stops.proofs.OneMore.{label-joined}
 use Rattle.plan_stops.proofs.Radial.{Radial, radial-out}
 use Rattle.plan_holdings.specs.Holdings.{waitingAt}
@@ -33,15 +36,23 @@ use Rattle.plan_stops.proofs.Weighed.{Weighed}
 use Rattle.plan_stops.proofs.Works.{safe-supplied}
 use Rattle.plan_supply.specs.Supply.{Light, Rated, Sourced, askOf, askedAt, asksIn, spareAt, spareIn}
 use Rattle.plan_supply.proofs.Adding.{asks-long, asks-at, asked-most, spare-long, spare-at, spare-most, spare-dark, spare-fed}
-use Rattle.plan_candidates.specs.Candidates.{asksOf, Started}
-use Rattle.plan_candidates.proofs.Arrays.{sound-long}
-use Rattle.plan_candidates.proofs.Starting.{Gathered, label-at, low, long, sound-at, radial, starting-carried}
+use Rattle.plan_candidates.specs.Candidates.{asksOf, basedOn, Founded}
+use Rattle.plan_candidates.proofs.Arrays.{sources-at}
+use Rattle.plan_candidates.proofs.Starting.{Gathered, label-at, low, long, radial, starting-carried}
 
 -- ---- what the parts ask where the search starts
 
-module _ (n : Network) (w : WellFormed n) (starts : Starts (netOf n)) {base : List ℕ} {parts : Parts}
-    {sound faulty restorable live fault need holds : List ℕ} {total : ℕ}
-    (s : Gathered n base parts sound faulty restorable live fault need holds total) where
+module _ (st : Start) (ok : Searchable st) {base : List ℕ} {parts : Parts} {live fault need holds : List ℕ} {total : ℕ}
+    (s : Gathered st base parts live fault need holds total) where
+  abbrev n : Network
+  n = st .net
+
+  abbrev w : WellFormed n
+  w = ok .formed
+
+  abbrev sound : List ℕ
+  sound = st .sound
+
   abbrev asks : ℕ → ℕ
   asks = asksOf (netOf n)
 
@@ -52,33 +63,33 @@ module _ (n : Network) (w : WellFormed n) (starts : Starts (netOf n)) {base : Li
   pub rated : Rated (parts .label) (n .load) (n .capacity) (n .elements)
   rated = record {
     fit = w .elements-fit;
-    label-long = omega (arith, w .elements-fit, long n w starts s);
+    label-long = omega (arith, w .elements-fit, long st ok s);
     load-long = omega (arith, w .elements-fit, w .load-long);
     capacity-long = omega (arith, w .elements-fit, w .capacity-long);
-    label-in = λ e k. omega (arith, low n w starts s e, w .elements-fit);
+    label-in = λ e k. omega (arith, low st ok s e, w .elements-fit);
     load-in = λ e k. omega (arith, w .load-in e k);
   }
 
   -- every source bears its part: the start is safe, and switches were opened
-  supplied : supplied? (netOf n .grid) asks (based (netOf n)) ≡ true
+  supplied : supplied? (netOf n .grid) asks (basedOn st) ≡ true
   unfolding openedBy
-  supplied = safe-supplied (netOf n .grid) (formed-net n w) (based (netOf n)) 4294967296
-      (opening-safe (netOf n .grid) (based (netOf n)) (netOf n .startClosed) (λ l h. and-left (netOf n .startClosed l) _ h) (starts .safe))
+  supplied = safe-supplied (netOf n .grid) (formed-net n w) (basedOn st) 4294967296
+      (opening-safe (netOf n .grid) (basedOn st) (netOf n .startClosed) (λ l h. and-left (netOf n .startClosed l) _ h) (ok .safe))
 
   -- what is asked at a label is what its part asks
-  asked-part : (x : ℕ) → x < 64 → at asked x ≡ partAsks (netOf n .grid) asks (based (netOf n)) x
+  asked-part : (x : ℕ) → x < 64 → at asked x ≡ partAsks (netOf n .grid) asks (basedOn st) x
   unfolding askedAt askOf partAsks ownAsk netOf gridOf
   asked-part x h =
       asks-at (parts .label) (n .load) (n .capacity) (n .elements) x h
-      ∙ sumTo-ext (n .elements) _ _ (λ e k. ap (λ (y : ℕ). gate (eqb y x) (asks e)) (label-at n w starts s e k))
+      ∙ sumTo-ext (n .elements) _ _ (λ e k. ap (λ (y : ℕ). gate (eqb y x) (asks e)) (label-at st ok s e k))
 
-  label-small : (e : ℕ) → e < n .elements → label (netOf n .grid) (based (netOf n)) e < 64
-  label-small e k = omega (arith, label-at n w starts s e k, low n w starts s e, w .elements-fit)
+  label-small : (e : ℕ) → e < n .elements → label (netOf n .grid) (basedOn st) e < 64
+  label-small e k = omega (arith, label-at st ok s e k, low st ok s e, w .elements-fit)
 
   -- a source among the sound elements
   source : (e : ℕ) → e < n .elements → isIn sound e ≡ true → Sound (netOf n .grid) e
   unfolding netOf gridOf
-  source e k h = sound?-out (netOf n .grid) e k (sym (sound-at n w starts s e k) ∙ h)
+  source e k h = sound?-out (netOf n .grid) e k (sym (sources-at st ok e k) ∙ h)
 
   pub sourced : Sourced (asksIn (parts .label) (n .load) (n .capacity) (n .elements)) (parts .label) sound (n .capacity) (n .elements)
   unfolding netOf gridOf
@@ -86,15 +97,15 @@ module _ (n : Network) (w : WellFormed n) (starts : Starts (netOf n)) {base : Li
     fit = w .elements-fit;
     asked-long = asks-long (parts .label) (n .load) (n .capacity) (n .elements);
     label-long = rated .label-long;
-    sound-long = omega (arith, w .elements-fit, ap length (s .sound-is), sound-long n w);
+    sound-long = omega (arith, w .elements-fit, bits-long _ _ _ (sound-of st _ (ok .made)));
     capacity-long = rated .capacity-long;
     label-in = rated .label-in;
     capacity-in = λ e k. omega (arith, w .capacity-in e k);
     borne = λ e k h. omega (
       arith,
-      ap (at asked) (label-at n w starts s e k),
-      asked-part (label (netOf n .grid) (based (netOf n)) e) (label-small e k),
-      supplied-out (netOf n .grid) asks (based (netOf n)) supplied .bears e (source e k h),
+      ap (at asked) (label-at st ok s e k),
+      asked-part (label (netOf n .grid) (basedOn st) e) (label-small e k),
+      supplied-out (netOf n .grid) asks (basedOn st) supplied .bears e (source e k h),
     );
   }
 
@@ -102,11 +113,11 @@ module _ (n : Network) (w : WellFormed n) (starts : Starts (netOf n)) {base : Li
     number : (x : ℕ) → x < 64 → at spare x ≡ spareAt asked (parts .label) sound (n .capacity) (n .elements) x
     number x h = ap (λ (xs : List ℕ). at xs x) spare-is ∙ spare-at asked (parts .label) sound (n .capacity) (n .elements) x h
 
-    radial-start : Radial (netOf n .grid) (based (netOf n))
-    radial-start = radial-out (netOf n .grid) (formed-net n w) (based (netOf n)) (radial n w starts s)
+    radial-start : Radial (netOf n .grid) (basedOn st)
+    radial-start = radial-out (netOf n .grid) (formed-net n w) (basedOn st) (radial st ok s)
 
     -- the theorem: the numbers stand for the parts
-    starting-weighed : Weighed (netOf n) (asksOf (netOf n)) (based (netOf n)) spare
+    starting-weighed : Weighed (netOf n) (asksOf (netOf n)) (basedOn st) spare
     unfolding netOf gridOf
     starting-weighed = record {
       long = ap length spare-is ∙ spare-long asked (parts .label) sound (n .capacity) (n .elements);
@@ -114,30 +125,30 @@ module _ (n : Network) (w : WellFormed n) (starts : Starts (netOf n)) {base : Li
       fed = fed;
     }
       where
-        dark : (x : ℕ) → x < n .elements → label (netOf n .grid) (based (netOf n)) x ≡ x → hasSource (partHolds (netOf n) (based (netOf n)) x) ≡ false
-            → at spare x ≡ partAsks (netOf n .grid) asks (based (netOf n)) x
+        dark : (x : ℕ) → x < n .elements → label (netOf n .grid) (basedOn st) x ≡ x → hasSource (partHolds (netOf n) (basedOn st) x) ≡ false
+            → at spare x ≡ partAsks (netOf n .grid) asks (basedOn st) x
         dark x k own none =
             number x (omega (arith, w .elements-fit))
-            ∙ spare-dark asked (parts .label) sound (n .capacity) (n .elements) x (λ e b h q. false≢true (sym none ∙ holds-source (netOf n) (based (netOf n)) x
-            ∙ part-in (netOf n) (based (netOf n)) (sound? (netOf n .grid)) x e b (sym (sound-at n w starts s e b) ∙ h) (sym (label-at n w starts s e b) ∙ q)))
+            ∙ spare-dark asked (parts .label) sound (n .capacity) (n .elements) x (λ e b h q. false≢true (sym none ∙ holds-source (netOf n) (basedOn st) x
+            ∙ part-in (netOf n) (basedOn st) (sound? (netOf n .grid)) x e b (sym (sources-at st ok e b) ∙ h) (sym (label-at st ok s e b) ∙ q)))
             ∙ asked-part x (omega (arith, w .elements-fit))
 
-        fed : (e : ℕ) → Sound (netOf n .grid) e → at spare (label (netOf n .grid) (based (netOf n)) e) + partAsks (netOf n .grid) asks (based (netOf n)) (label (netOf n .grid) (based (netOf n)) e) ≡ netOf n .grid .capacity e
+        fed : (e : ℕ) → Sound (netOf n .grid) e → at spare (label (netOf n .grid) (basedOn st) e) + partAsks (netOf n .grid) asks (basedOn st) (label (netOf n .grid) (basedOn st) e) ≡ netOf n .grid .capacity e
         fed e p = omega (
           arith,
           number x (label-small e (p .below)),
-          spare-fed asked (parts .label) sound (n .capacity) (n .elements) x e (p .below) (sound-at n w starts s e (p .below) ∙ sound?-in (netOf n .grid) e p)
-              (label-at n w starts s e (p .below)) only,
+          spare-fed asked (parts .label) sound (n .capacity) (n .elements) x e (p .below) (sources-at st ok e (p .below) ∙ sound?-in (netOf n .grid) e p)
+              (label-at st ok s e (p .below)) only,
           asked-part x (label-small e (p .below)),
-          supplied-out (netOf n .grid) asks (based (netOf n)) supplied .bears e p,
+          supplied-out (netOf n .grid) asks (basedOn st) supplied .bears e p,
         )
           where
             x : ℕ
-            x = label (netOf n .grid) (based (netOf n)) e
+            x = label (netOf n .grid) (basedOn st) e
 
             only : (t : ℕ) → t < n .elements → isIn sound t ≡ true → at (parts .label) t ≡ x → t ≡ e
             only t b h q = radial-start .one t e (source t b h) p
-                (label-joined (netOf n .grid) (formed-net n w) (based (netOf n)) e t (p .below) b (sym (label-at n w starts s t b) ∙ q))
+                (label-joined (netOf n .grid) (formed-net n w) (basedOn st) e t (p .below) b (sym (label-at st ok s t b) ∙ q))
 
     -- and they are small
     starting-light : Light spare 0
@@ -170,9 +181,9 @@ module _ (n : Network) (w : WellFormed n) (starts : Starts (netOf n)) {base : Li
     )
 
     -- the theorem: all that the search starts from
-    pub starts-from : Started n (record { label = parts .label; holds = holds; spare = spare; waiting = total })
-    starts-from = record {
-      carried = starting-carried n w starts s;
+    pub founded : Founded st (record { label = parts .label; holds = holds; spare = spare; waiting = total })
+    founded = record {
+      carried = starting-carried st ok s;
       weighed = starting-weighed;
       light = starting-light;
       few = few;

@@ -9,7 +9,7 @@ use lib.ListN.{take}
 use Rattle.network.specs.declared.Network.{Network}
 use Rattle.network.specs.declared.refusal.Refusal.{Refusal}
 use Rattle.network.specs.declared.refusal.Answer.the-variants as Answer·
-use Rattle.file_network.specs.declared.NetworkRead.{NetworkRead}
+use Rattle.feeding_acceptance.specs.declared.Admitted.{Admitted}
 use Rattle.file_network.specs.Inputs.{decides, networkRead}
 use Rattle.file_network.proofs.NetworkAlike.{network-decided}
 use Rattle.file_network.specs.Runs as Runs
@@ -18,6 +18,7 @@ use Rattle.feeding.specs.Plans.{Step, ValidPlan, costOf, printedForm}
 use Rattle.feeding_acceptance.specs.Reading.{acceptedRead, Bytes, AcceptedNetwork, FirstRule}
 use Rattle.feeding_acceptance.specs.Reading as Reading
 use Rattle.feeding_acceptance.proofs.Promises.{admission-only, network-once, accepted-unrefused}
+use Rattle.feeding_start.specs.Starting.{startWith}
 use Rattle.plan_problem.specs.Choosing.{Promised, NoPlan}
 use Rattle.plan_problem.proofs.Preferring.{first-same}
 use Rattle.plan_form.specs.Printing.{stepsOf}
@@ -59,9 +60,9 @@ module _ (s : List ℕ) (bytes : Bytes s) where
 
   -- demand 1: what breaks a rule is refused by its first broken rule, with its place, and nothing else is refused
   pub refused-exactly : (f : Refusal) → (FirstRule s f → outcome s .reply ≡ Reply·.Refused f) × (outcome s .reply ≡ Reply·.Refused f → FirstRule s f)
-  unfolding outcome outcomeRead outcomeAnswered
+  unfolding outcome outcomeRead outcomeAnswered startWith
   refused-exactly f = (
-    λ r. ap (λ (x : NetworkRead). outcomeRead x .reply) (sym (admission-only s bytes _ (Reading.refused r))),
+    λ r. ap (λ (x : Admitted). outcomeRead x .reply) (sym (admission-only s bytes _ (Reading.refused r))),
     λ e. outcome-kept s bytes .refused f e,
   )
 

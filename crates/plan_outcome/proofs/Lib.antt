@@ -1,4 +1,3 @@
 pub mod Exactly
-pub mod Operating
 pub mod Promises
 pub mod Solving

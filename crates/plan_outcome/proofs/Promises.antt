@@ -10,7 +10,7 @@ use Rattle.network.specs.declared.Network.{Network}
 use Rattle.network.specs.declared.refusal.Refusal.{Refusal}
 use Rattle.network.specs.Accepted.{WellFormed}
 use Rattle.file_network.specs.Inputs.{networkInput, networkRead}
-use Rattle.file_network.specs.declared.NetworkRead.{NetworkRead}
+use Rattle.feeding_acceptance.specs.declared.Admitted.{Admitted}
 use Rattle.feeding.specs.Acceptance.{Starts}
 use Rattle.feeding.specs.Networks.{netOf, gridOf}
 use Rattle.feeding.specs.Plans.{Step, costOf, printedForm, run, setCost}
@@ -19,9 +19,10 @@ use Rattle.feeding.proofs.Views.{formed-net, fixed-closed, plan-balance}
 use Rattle.feeding_acceptance.specs.Reading.{acceptedRead, Bytes, AcceptedNetwork, FirstRule, Admission}
 use Rattle.feeding_acceptance.specs.Reading as Reading
 use Rattle.feeding_acceptance.proofs.Promises.{input-admission, network-starts}
+use Rattle.feeding_start.specs.Starting.{startWith}
 use Rattle.file_plan.specs.declared.plan.Plan.{Plan}
 use Rattle.file_plan.specs.PlanFiles.{emptyPlan}
-use Rattle.plan_problem.specs.Choosing.{Choice, nothing, chosen, planned, Promised, NoPlan}
+use Rattle.plan_problem.specs.Choosing.{Choice, nothing, chosen, planned, printedPlan, Promised, NoPlan}
 use Rattle.plan_problem.proofs.Choices.{PromisedChoice, planned-promised}
 use Rattle.plan_form.specs.Printing.{planWith, stepsOf}
 use Rattle.plan_form.proofs.Steps.{steps-with, printed-length}
@@ -31,7 +32,7 @@ use Rattle.plan_sums.proofs.Loads.{sums-in}
 use Rattle.plan_outcome.specs.declared.Planned.{Planned}
 use Rattle.plan_outcome.specs.declared.Reply.{Reply}
 use Rattle.plan_outcome.specs.declared.Reply.the-variants as Reply·
-use Rattle.plan_outcome.specs.Outcomes.{plannedBy, unplanned, outcomeFrom, outcomeOf, outcomeAnswered, outcomeRead, outcome}
+use Rattle.plan_outcome.specs.Outcomes.{outcomeWith, outcomeWithout, outcomeFrom, outcomeOf, outcomeAnswered, outcomeRead, outcome}
 use Rattle.plan_outcome.specs.declared.Outcome.{Outcome}
 
 -- ---- what an outcome promises, in the paper's terms: the cases of the replies that `planner` promises
@@ -134,8 +135,8 @@ module _ (n : Network) (well : WellFormed n) (starts : Starts (netOf n)) where
         back : q ≡ stepsOf (planWith emptyPlan q)
         back = sym (steps-with q fit)
 
-    choice-kept : (c : Choice) → PromisedChoice (netOf n) c → OutcomeKept s (outcomeFrom n c)
-    unfolding outcomeFrom unplanned plannedBy
+    choice-kept : (c : Choice) → PromisedChoice (netOf n) c → OutcomeKept s (outcomeFrom n (printedPlan (netOf n) c))
+    unfolding outcomeFrom outcomeWithout outcomeWith printedPlan
     choice-kept nothing promise =
         none-outcome s (sumsAfter (netOf n) (netOf n .startClosed)) emptyPlan (record {
           net = n;
@@ -155,8 +156,8 @@ module _ (n : Network) (well : WellFormed n) (starts : Starts (netOf n)) where
 -- ---- the outcome of any bytes
 
 module _ (s : List ℕ) (bytes : Bytes s) where
-  read-kept : (r : NetworkRead) → Admission s r → OutcomeKept s (outcomeRead r)
-  unfolding outcomeRead outcomeAnswered
+  read-kept : (r : Admitted) → Admission s r → OutcomeKept s (outcomeRead r)
+  unfolding outcomeRead outcomeAnswered startWith
   read-kept _ (Reading.refused {f = f} b) = refused-outcome s f emptyPlan b
   read-kept _ (Reading.accepted n a) =
       let starts = network-starts s bytes n a in

@@ -10,11 +10,11 @@ use native.Mathlib.Omega.{arith}
 use Rattle.feeding.specs.Below.{gate, sumTo}
 use Rattle.feeding.specs.Networks.{Net, at}
 use Rattle.feeding.specs.Plans.{put, setCost}
-use Rattle.feeding.specs.Restoration.{operable?, operables}
+use Rattle.feeding.specs.Restoration.{operablesBy}
 use Rattle.feeding.proofs.Below.{gate-le}
 use Rattle.feeding.proofs.Lows.{those-out, those-rising}
 use Rattle.feeding.proofs.Sums.{sumTo-ext, sumTo-add, sumTo-none, sumTo-at, sumTo-below}
-use Rattle.plan_problem.specs.Sets.{setOf, priceOf, setIn, switchesOf}
+use Rattle.plan_problem.specs.Sets.{setOf, priceOf, setIn}
 use Rattle.plan_problem.proofs.Rising.{at-member, at-rising}
 
 set-none : (net : Net) → setCost net (λ _. false) ≡ 0
@@ -58,11 +58,12 @@ price-set net op (suc n) rising inside s =
     (set-free op n (s / 2) (op n) (λ j k e. let r : op j < op n = rising j n k (omega arith) in omega arith))
     (inside n (omega arith)))
 
-pub price-cost : (net : Net) (s : ℕ) → priceOf (λ i. net .cost (at (operables net) i)) (length (operables net)) s ≡ setCost net (switchesOf net s)
-unfolding operables setIn
-price-cost net s =
-    price-set net (at (operables net)) (length (operables net)) (at-rising (operables net) (those-rising (net .grid .K) (operable? net)))
-    (λ j k. those-out (net .grid .K) (operable? net) _ (at-member (operables net) j k) .0) s
+pub price-cost : (net : Net) (op : ℕ → Bool) (s : ℕ)
+    → priceOf (λ i. net .cost (at (operablesBy net op) i)) (length (operablesBy net op)) s ≡ setCost net (setIn (operablesBy net op) s)
+unfolding operablesBy setIn
+price-cost net op s =
+    price-set net (at (operablesBy net op)) (length (operablesBy net op)) (at-rising (operablesBy net op) (those-rising (net .grid .K) op))
+    (λ j k. those-out (net .grid .K) op _ (at-member (operablesBy net op) j k) .0) s
 
 pub set-cost-below : (net : Net) → net .grid .K ≤ 96 → ((l : ℕ) → l < net .grid .K → net .cost l < 65536)
     → (D : ℕ → Bool) → setCost net D < 18446744073709551615

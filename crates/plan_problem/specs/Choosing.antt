@@ -10,9 +10,10 @@ use lib.Dec.{leb}
 use Rattle.feeding.specs.Below.{gate}
 use Rattle.feeding.specs.Networks.{Net}
 use Rattle.feeding.specs.Parts.{Config}
+use Rattle.feeding.specs.Restoration.{Operable, Restored, operablesBy, restored?}
+use Rattle.feeding.specs.Plans.{Step, Valid, costOf, setCost, operations, printedForm, put, flip}
 use Rattle.feeding.specs.Safety.{safe?}
-use Rattle.feeding.specs.Restoration.{Operable, operables, Restored, restored?}
-use Rattle.feeding.specs.Plans.{Step, Valid, costOf, operations, printedForm, put, flip, setCost}
+use Rattle.feeding.specs.Tasks.{Task, restoration}
 
 -- D is a set of operable switches, and its printed form is a valid plan
 pub record RestoresBy (net : Net) (op : ℕ → Type 0) (goal : Config → Type 0) (D : ℕ → Bool) : Type 0 where
@@ -121,12 +122,37 @@ unfoldable pub best : Preference → (works : (ℕ → Bool) → Bool) → (ℕ 
 best prefers works D [] = firstIf (works D) (chosen D) nothing
 best prefers works D (l ∷ ls) = better prefers (best prefers works (put D l true) ls) (best prefers works (put D l false) ls)
 
+-- ---- for a task
+
+-- the configuration with the switches of D operated is safe and meets the goal
+unfoldable pub worksBy : (net : Net) → (Config → Bool) → (ℕ → Bool) → Bool
+worksBy net meets D = elim (safe? (net .grid) (flip (net .startClosed) D)) [ true ↦ meets (flip (net .startClosed) D) | false ↦ false ]
+
+-- the cheapest that works, over all sets of operable switches
+unfoldable pub plannedBy : (net : Net) → Task net → Choice
+plannedBy net t = best (noDearer (t .setCost)) (worksBy net (t .meets?)) (λ _. false) (operablesBy net (t .operable?))
+
+-- a plan is a list of steps, however it was found; or there is none
+pub data Planning : Type 0 where
+  unplanned : Planning
+  by : List Step → Planning
+
+-- the printed form of the set that is chosen
+unfoldable pub printedPlan : Net → Choice → Planning
+printedPlan net nothing = unplanned
+printedPlan net (chosen D) = by (printedForm net D)
+
 -- ---- document 01
 
--- the configuration with the switches of D operated is safe, and every restorable element is live in it
-unfoldable pub works? : Net → (ℕ → Bool) → Bool
-works? net D = elim (safe? (net .grid) (flip (net .startClosed) D)) [ true ↦ restored? net (flip (net .startClosed) D) | false ↦ false ]
+abbrev pub works? : Net → (ℕ → Bool) → Bool
+works? net D = worksBy net (restored? net) D
 
--- the cheapest, over all sets of operable switches
-unfoldable pub planned : Net → Choice
-planned net = best (noDearer (setCost net)) (works? net) (λ _. false) (operables net)
+-- over the switches of any list
+abbrev pub restoredOver : Net → List ℕ → Choice
+restoredOver net ls = best (noDearer (setCost net)) (works? net) (λ _. false) ls
+
+abbrev pub planned : Net → Choice
+planned net = plannedBy net (restoration net)
+
+abbrev pub planning : Net → Planning
+planning net = printedPlan net (planned net)

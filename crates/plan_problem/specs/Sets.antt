@@ -7,11 +7,10 @@ use Prim.Native.Nat.{ℕ, zero, suc, _+_, _*_, _/_, _%_}
 use lib.Dec.{eqb, ltb}
 use lib.ListN.{length}
 use Rattle.feeding.specs.Below.{gate}
-use Rattle.feeding.specs.Networks.{Net, at}
-use Rattle.feeding.specs.Restoration.{operables}
-use Rattle.feeding.specs.Plans.{put, setCost}
+use Rattle.feeding.specs.Networks.{at}
+use Rattle.feeding.specs.Plans.{put}
 use Rattle.plan_problem.specs.declared.Best.{Best}
-use Rattle.plan_problem.specs.Choosing.{Choice, nothing, chosen, works?}
+use Rattle.plan_problem.specs.Choosing.{Choice, nothing, chosen}
 
 -- the set of the first n switches op 0, op 1, .. that a number writes: the first has the highest bit, so a higher number comes first in the
 -- set order
@@ -60,17 +59,3 @@ cheapestBy ls cost works = scan (keep (λ s. cost (setIn ls s)) (λ s. works (se
 -- the choice that it stands for
 unfoldable pub choiceBy : List ℕ → Best → Choice
 choiceBy ls b = elim (ltb (b .cost) 18446744073709551615) [ true ↦ chosen (setIn ls (b .set)) | false ↦ nothing ]
-
--- ---- document 01: its operable switches, by their place among them
-
-abbrev pub operableAt : Net → ℕ → ℕ
-operableAt net i = at (operables net) i
-
-abbrev pub operableCount : Net → ℕ
-operableCount net = length (operables net)
-
-abbrev pub switchesOf : Net → ℕ → (ℕ → Bool)
-switchesOf net s = setIn (operables net) s
-
-unfoldable pub cheapestSet : Net → Best
-cheapestSet net = cheapestBy (operables net) (setCost net) (works? net)

@@ -13,13 +13,13 @@ use native.Mathlib.Omega.{arith}
 use Rattle.feeding.specs.Below.{gate, those}
 use Rattle.feeding.specs.Networks.{Net, Formed, at}
 use Rattle.feeding.specs.Parts.{Config, label}
-use Rattle.feeding.specs.Restoration.{operable?, operables, restored?}
+use Rattle.feeding.specs.Restoration.{operablesBy, restored?}
 use Rattle.feeding.specs.Plans.{put, differ, flip}
 use Rattle.feeding.proofs.Below.{gate-le, same-test, and-left, and-right, and-both}
 use Rattle.feeding_parts.specs.Labelling.{rootOf}
-use Rattle.plan_problem.specs.Sets.{setOf, setIn, setsFrom, passing, scan, operableAt, operableCount, switchesOf}
+use Rattle.plan_problem.specs.Sets.{setOf, setIn, setsFrom, passing, scan}
 use Rattle.plan_problem.proofs.Scans.{next, passing-end, passing-next, passing-none, scan-append}
-use Rattle.plan_stops.specs.Candidates.{radial?, passes?, candidate?, openedBy, based}
+use Rattle.plan_stops.specs.Candidates.{radial?, passes?, candidate?, openedBy}
 use Rattle.plan_stops.specs.Holding.{clash, together, serves}
 use Rattle.plan_stops.specs.Supply.{supplied?}
 use Rattle.plan_stops.specs.Searching.{Switching, bears, carriedOn, Onward, joining, deciding, visited}
@@ -420,23 +420,20 @@ all-served net formed total c served p h carried =
     reached true t e = absurd (false≢true e)
     reached false t e = ltb-false served total t
 
-operable-inside : (net : Net) (l : ℕ) → operable? net l ≡ true → l < net .grid .K
-unfolding operable?
-operable-inside net l h = ltb-true l (net .grid .K) (and-left (ltb l (net .grid .K)) _ h)
-
--- document 01's operable switches, and every restorable element live
-module _ (net : Net) (formed : Formed (net .grid)) (w : Switching)
-    (ends-a : (i : ℕ) → i < operableCount net → w .endA i ≡ net .grid .endA (operableAt net i))
-    (ends-b : (i : ℕ) → i < operableCount net → w .endB i ≡ net .grid .endB (operableAt net i))
-    (starts : (i : ℕ) → i < operableCount net → w .closed i ≡ net .startClosed (operableAt net i))
+-- every restorable element live, over the switches that pass any test
+module _ (net : Net) (formed : Formed (net .grid)) (op : ℕ → Bool) (inside : (l : ℕ) → op l ≡ true → l < net .grid .K) (w : Switching)
+    (ends-a : (i : ℕ) → i < length (operablesBy net op) → w .endA i ≡ net .grid .endA (at (operablesBy net op) i))
+    (ends-b : (i : ℕ) → i < length (operablesBy net op) → w .endB i ≡ net .grid .endB (at (operablesBy net op) i))
+    (starts : (i : ℕ) → i < length (operablesBy net op) → w .closed i ≡ net .startClosed (at (operablesBy net op) i))
     {S : Type 0} (stop : ℕ → ℕ → S → Bool) (visit : S → ℕ → S)
-    (goes-on : (i s : ℕ) (b : S) (d : Bool) → i < operableCount net → stop i s b ≡ true → stop (suc i) (next d s) b ≡ true)
-    (unkept : (s : ℕ) (b : S) → stop (operableCount net) s b ≡ true → visit b s ≡ b) where
-  pub searched-operable : (asks : ℕ → ℕ) (total : ℕ) (p h v : List ℕ) (b : S) → CarriedParts net (based net) total 0 p h → Weighed net asks (based net) v
-      → visited stop visit w total (operableCount net) 0 0 0 p h v b
-      ≡ scan visit (passing (λ s. candidate? net (switchesOf net s) && supplied? (net .grid) asks (flip (net .startClosed) (switchesOf net s)))
-      (setsFrom (operableCount net) 0)) b
-  unfolding operables
-  searched-operable asks total p h v b carried weighed =
-      searched net formed (operable? net) total total (restored? net) (all-served net formed total) asks stop visit goes-on unkept w ends-a ends-b starts
-      (operable-inside net) p h v b carried weighed
+    (goes-on : (i s : ℕ) (b : S) (d : Bool) → i < length (operablesBy net op) → stop i s b ≡ true → stop (suc i) (next d s) b ≡ true)
+    (unkept : (s : ℕ) (b : S) → stop (length (operablesBy net op)) s b ≡ true → visit b s ≡ b) where
+  pub searched-restoring : (asks : ℕ → ℕ) (total : ℕ) (p h v : List ℕ) (b : S) → CarriedParts net (openedBy net op) total 0 p h
+      → Weighed net asks (openedBy net op) v
+      → visited stop visit w total (length (operablesBy net op)) 0 0 0 p h v b
+      ≡ scan visit (passing (λ s. candidate? net (setIn (operablesBy net op) s)
+      && supplied? (net .grid) asks (flip (net .startClosed) (setIn (operablesBy net op) s))) (setsFrom (length (operablesBy net op)) 0)) b
+  unfolding operablesBy
+  searched-restoring asks total p h v b carried weighed =
+      searched net formed op total total (restored? net) (all-served net formed total) asks stop visit goes-on unkept w ends-a ends-b starts
+      inside p h v b carried weighed

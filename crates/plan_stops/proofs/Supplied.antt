@@ -5,11 +5,11 @@ use Prim.Native.Nat.{ℕ, _+_, _≤_, _<_, min}
 use mathlib.Core.Path.{_≡_, refl, sym, ap, _∙_}
 use mathlib.Core.Logic.{_⊎_, inl, inr}
 use mathlib.Core.Bool.{Bool, true, false}
-use lib.Dec.{eqb, ltb, leb}
-use borrow.Author.Tests.{eqb-true, eq-eqb, ne-eqb, leb-true, leb-false, le-leb}
+use lib.Dec.{eqb, ltb}
+use borrow.Author.Tests.{eqb-true, eq-eqb, ne-eqb, leb-true, le-leb}
 use native.Mathlib.Omega.{arith}
 use Rattle.feeding.specs.Below.{gate}
-use Rattle.feeding.specs.Loads.{Fed, at-source, loadAt, lowestOver}
+use Rattle.feeding.specs.Loads.{at-source, loadAt, lowestOver, Within}
 use Rattle.feeding.specs.Networks.{Grid, Formed}
 use Rattle.feeding.specs.Parts.{Config, Opened, Joined, here, over, Sound, label, joined?, sound?}
 use Rattle.feeding.specs.Plans.{put}
@@ -20,9 +20,8 @@ use Rattle.feeding.proofs.Hanging.{load-hanging}
 use Rattle.feeding.proofs.Joins.{joined-sym}
 use Rattle.feeding.proofs.Labels.{joined?-sound, joined?-complete}
 use Rattle.feeding.proofs.Load.{FedAt, live-fed, load-equation, fed-in, fed-came}
-use Rattle.feeding.proofs.Lows.{none-below}
 use Rattle.feeding.proofs.Opening.{joined-mono}
-use Rattle.feeding.proofs.Overloads.{over-lowest}
+use Rattle.feeding.proofs.Overloads.{none-over}
 use Rattle.feeding.proofs.Sums.{sumTo-ext, sumTo-add, sumTo-mono}
 use Rattle.feeding.proofs.Tests.{sound?-in, sound?-out}
 use Rattle.feeding.proofs.Walk.{start}
@@ -108,13 +107,8 @@ module _ (g : Grid) (formed : Formed g) (asks : ℕ → ℕ) (c′ c : Config) (
 -- ---- within capacity, a source bears its part
 
 module _ (g : Grid) (formed : Formed g) (c : Config) (radial : Radial g c) (top : ℕ) (within : ltb (lowestOver g c) (g .E) ≡ false) where
-  fits : (e via : ℕ) → Fed g c e via → loadAt g c e via ≤ g .capacity e
-  fits e via f = go (leb (loadAt g c e via) (g .capacity e)) refl
-    where
-      go : (t : Bool) → leb (loadAt g c e via) (g .capacity e) ≡ t → loadAt g c e via ≤ g .capacity e
-      go true t = leb-true _ _ t
-      go false t = absurd (none-below (g .E) _ _ (over-lowest g formed c (radial .bridges)) within e (fed-in g c formed f)
-          (record { via = via; fed = f; above = leb-false _ _ t }))
+  fits : Within g c
+  fits = none-over g formed c (radial .bridges) within
 
   -- a live element bears its own load, so it asks that
   own : (s e : ℕ) → Sound g s → Joined g c s e → ownAsk g top e ≡ g .load e

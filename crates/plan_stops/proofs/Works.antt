@@ -5,7 +5,6 @@ use Prim.Native.Nat.{ℕ}
 use mathlib.Core.Path.{_≡_, refl, sym, ap, _∙_}
 use mathlib.Core.Bool.{Bool, true, false, not, _&&_}
 use lib.Dec.{ltb}
-use native.Mathlib.Omega.{arith}
 use Rattle.feeding.specs.Loads.{lowestOver}
 use Rattle.feeding.specs.Networks.{Grid, Net, Formed}
 use Rattle.feeding.specs.Parts.{Config}
@@ -16,7 +15,7 @@ use Rattle.feeding.proofs.Below.{and-left}
 use Rattle.feeding.proofs.Forest.{safe-bridges}
 use Rattle.feeding.proofs.Lows.{none-place}
 use Rattle.feeding.proofs.Overloads.{over-lowest}
-use Rattle.plan_problem.specs.Choosing.{works?}
+use Rattle.plan_problem.specs.Choosing.{works?, worksBy}
 use Rattle.plan_stops.specs.Candidates.{radial?, passes?, candidate?}
 use Rattle.plan_stops.specs.Supply.{ownAsk, supplied?}
 use Rattle.plan_stops.proofs.Radial.{Radial, radial-out}
@@ -25,7 +24,7 @@ use Rattle.plan_stops.proofs.Supplied.{within-supplied}
 -- a set that works is a candidate that overloads nothing
 pub works-candidate : (net : Net) (D : ℕ → Bool)
     → works? net D ≡ (candidate? net D && not (ltb (lowestOver (net .grid) (flip (net .startClosed) D)) (net .grid .E)))
-unfolding works? passes? radial? safe?
+unfolding worksBy passes? radial? safe?
 works-candidate net D =
     go (ltb (treePlace (net .grid) (flip (net .startClosed) D)) (net .grid .E))
     (ltb (pairPlace (net .grid) (flip (net .startClosed) D)) (net .grid .E))
@@ -81,7 +80,7 @@ supplied-works net formed top D = go (candidate? net D) refl (supplied? g (ownAs
 -- in a safe configuration every source bears its part; so also with any links opened
 pub safe-supplied : (g : Grid) → Formed g → (c : Config) (top : ℕ) → Safe g c → supplied? g (ownAsk g top) c ≡ true
 safe-supplied g formed c top safe = within-supplied g formed c radial top
-    (none-place (g .E) _ _ (over-lowest g formed c (radial .bridges)) (λ e k o. omega (arith, safe .within e (o .via) (o .fed), o .above)))
+    (none-place (g .E) _ _ (over-lowest g formed c (radial .bridges)) (λ e k o. o .above (safe .within e (o .via) (o .fed))))
   where
     radial : Radial g c
     radial = record { bridges = safe-bridges g formed c (safe .tree); one = safe .one; clear = safe .clear }

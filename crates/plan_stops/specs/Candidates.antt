@@ -7,7 +7,7 @@ use lib.Dec.{ltb}
 use Rattle.feeding.specs.Networks.{Grid, Net}
 use Rattle.feeding.specs.Parts.{Config}
 use Rattle.feeding.specs.Safety.{treePlace, pairPlace, faultPlace}
-use Rattle.feeding.specs.Restoration.{operable?, restored?}
+use Rattle.feeding.specs.Restoration.{restored?}
 use Rattle.feeding.specs.Plans.{flip}
 
 -- the configuration breaks none of rules 14 to 16
@@ -22,10 +22,7 @@ passes? net meets D = radial? (net .grid) (flip (net .startClosed) D) && meets (
 unfoldable pub openedBy : Net → (op : ℕ → Bool) → Config
 openedBy net op l = net .startClosed l && not (op l)
 
--- ---- document 01: every restorable element is live in the last configuration, and a search starts with the operable switches open
+-- ---- document 01: every restorable element is live in the last configuration
 
 abbrev pub candidate? : Net → (ℕ → Bool) → Bool
 candidate? net D = passes? net (restored? net) D
-
-abbrev pub based : Net → Config
-based net = openedBy net (operable? net)

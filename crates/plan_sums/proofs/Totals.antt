@@ -1,6 +1,6 @@
 -- A sum over a set by one element more, and the three sums from the sets that the code makes: each set has the theory's elements.
 -- Assumes nothing.
-use mathlib.Core.Path.{_≡_, refl, ap, ap₂, _∙_}
+use mathlib.Core.Path.{_≡_, ap, ap₂, _∙_}
 use mathlib.Core.Bool.{Bool, not, _&&_}
 use mathlib.Core.List.{List}
 use Prim.Native.Nat.{ℕ, _+_, _<_}
@@ -12,11 +12,10 @@ use Rattle.network.specs.declared.Network.{Network}
 use Rattle.network.specs.Accepted.{WellFormed}
 use Rattle.feeding.specs.Below.{gate, sumTo, bits}
 use Rattle.feeding.specs.Networks.{netOf, gridOf, at, isIn}
-use Rattle.feeding.specs.Parts.{closedIn, label, joined?, sound?, live?}
+use Rattle.feeding.specs.Parts.{closedIn, live?}
 use Rattle.feeding.specs.Restoration.{restorable?, fedLoad, darkLoad, lostLoad}
 use Rattle.feeding.proofs.Sums.{sumTo-no, sumTo-more, sumTo-ext}
 use Rattle.feeding_sets.specs.Sets.{butNot}
-use Rattle.feeding_restoration.specs.Living.{liveIn}
 use Rattle.feeding_restoration.proofs.Reach.{bits-long}
 use Rattle.feeding_restoration.proofs.Sets.{ones, set-at, fits}
 use Rattle.plan_sums.specs.Sums.{LoadsReach, sumsAfter}
@@ -48,12 +47,6 @@ module _ (load has : List ℕ) where
 -- ---- the three sums
 
 module _ (n : Network) (w : WellFormed n) where
-  -- loads do not enter
-  live-here : (closed : List ℕ) (e : ℕ)
-      → liveIn (n .elements) (n .links) (n .flags) (n .from) (n .to) closed e ≡ live? (netOf n .grid) (closedIn closed) e
-  unfolding liveIn live? sound? joined? label netOf gridOf
-  live-here closed e = refl
-
   pub loads-reach : (has : List ℕ) (m : ℕ) (f : ℕ → Bool) → has ≡ bits 96 m f → LoadsReach (n .load) has (n .elements)
   loads-reach has m f e =
       record {
@@ -64,13 +57,13 @@ module _ (n : Network) (w : WellFormed n) where
       }
 
   module _ (closed live restorable waiting all others : List ℕ)
-      (live-made : live ≡ bits 96 (n .elements) (liveIn (n .elements) (n .links) (n .flags) (n .from) (n .to) closed))
+      (live-made : live ≡ bits 96 (n .elements) (live? (netOf n .grid) (closedIn closed)))
       (restorable-made : restorable ≡ bits 96 (n .elements) (restorable? (netOf n)))
       (waiting-made : waiting ≡ bits 96 (n .elements) (butNot restorable live))
       (all-made : all ≡ replicate 96 1)
       (others-made : others ≡ bits 96 (n .elements) (butNot all restorable)) where
     live-at : (e : ℕ) → e < n .elements → isIn live e ≡ live? (netOf n .grid) (closedIn closed) e
-    live-at e k = set-at n w (n .elements) _ live (fits n w) live-made e k ∙ live-here closed e
+    live-at e k = set-at n w (n .elements) _ live (fits n w) live-made e k
 
     restorable-at : (e : ℕ) → e < n .elements → isIn restorable e ≡ restorable? (netOf n) e
     restorable-at e k = set-at n w (n .elements) _ restorable (fits n w) restorable-made e k

@@ -1,14 +1,13 @@
 // The three sums of the LOAD line: loads of live elements, of restorable elements that are dark, and of elements that are not restorable.
-use feeding_restoration::live_elements;
-use feeding_restoration::restorable_elements;
+use feeding_restoration::joined_to;
 use feeding_sets::except;
-use network::Network;
+use feeding_start::Start;
 ghost use mathlib.Core.Path.{_≡_};
 ghost use lib.ListN.{length};
-ghost use Rattle.network.specs.Accepted.{WellFormed};
 ghost use Rattle.feeding.specs.Below.{sumTo, gate};
 ghost use Rattle.feeding.specs.Networks.{netOf, at, isIn};
 ghost use Rattle.feeding.specs.Parts.{closedIn};
+ghost use Rattle.feeding_start.specs.Starting.{Begun};
 ghost use Rattle.plan_sums.specs.Sums.{LoadsReach, sumsAfter};
 
 pub struct Sums {
@@ -34,17 +33,18 @@ pub fn load_of(load: &[u32], has: &[u8], count: usize) -> u64
 }
 
 // The sums in a configuration; closed[l] is 1 for a closed link.
-pub fn sums_after(net: Network, closed: &[u8]) -> Sums
-    requires { ⌜ WellFormed net ⌝ }
+pub fn sums_after(start: Start, closed: &[u8]) -> Sums
+    requires { ⌜ Begun start ⌝ }
     requires { ⌜ length (now closed) ≡ 96 ⌝ }
-    ensures { λ r. ⌜ r ≡ sumsAfter (netOf net) (closedIn (now (closed .entry))) ⌝ }
+    ensures { λ r. ⌜ r ≡ sumsAfter (netOf (start .net)) (closedIn (now (closed .entry))) ⌝ }
 {
+    let net = start.net;
     let load = net.load;
-    let flags = net.flags;
     let from = net.from;
     let to = net.to;
-    let live = live_elements(&flags, &from, &to, closed, net.elements, net.links);
-    let restorable = restorable_elements(net);
+    let sound = start.sound;
+    let restorable = start.restorable;
+    let live = joined_to(&from, &to, closed, &sound, net.elements, net.links);
     let waiting = except(&restorable, &live, net.elements);
     let all: [u8; 96] = [1; 96];
     let others = except(&all, &restorable, net.elements);

@@ -11,18 +11,14 @@ use borrow.Author.Tests.{eqb-true, eqb-false, ltb-true, ltb-false, lt-ltb}
 use native.Mathlib.Omega.{arith}
 use Rattle.network.specs.declared.Network.{Network}
 use Rattle.network.specs.Accepted.{WellFormed}
-use Rattle.feeding.specs.Below.{gate, bits}
+use Rattle.feeding.specs.Below.{gate}
 use Rattle.feeding.specs.Networks.{at, isIn, netOf, gridOf}
 use Rattle.feeding.specs.Plans.{put, differ, flip, setCost}
-use Rattle.feeding.specs.Restoration.{operable?, operables}
-use Rattle.feeding.proofs.Bits.{isIn-bits}
-use Rattle.feeding.proofs.Lows.{those-in, those-out, those-rising, those-ext}
-use Rattle.feeding.proofs.Tests.{operable?-out}
-use Rattle.feeding.proofs.Views.{formed-net}
-use Rattle.plan_problem.specs.Sets.{setOf, priceOf, setIn, switchesOf}
+use Rattle.feeding.specs.Restoration.{operablesBy}
+use Rattle.feeding.proofs.Lows.{those-in, those-out, those-rising}
+use Rattle.plan_problem.specs.Sets.{setOf, priceOf, setIn}
 use Rattle.plan_problem.proofs.Rising.{at-member, member-at, at-rising}
 use Rattle.plan_problem.proofs.Prices.{price-cost}
-use Rattle.feeding_sets.specs.Sets.{members}
 use Rattle.plan_switches.specs.declared.Switches.{Switches}
 use Rattle.plan_switches.specs.Switches.{SwitchReach, column, switchList, turned, withSet}
 use Rattle.plan_switches.proofs.Columns.{length-column, at-column, states-set}
@@ -194,35 +190,30 @@ column-below ops f top some h i = go (ltb i 16) refl
     go true t = omega (arith, at-column ops f i (ltb-true i 16 t), part (ltb i (length ops)) refl)
     go false t = omega (arith, List·getD-eq-default (column ops f) 0 {n = i} (omega (arith, length-column ops f, ltb-false i 16 t)))
 
--- ---- the operable switches of a network
+-- ---- the switches of a network that pass a test, none of which is fixed
 
-module _ (n : Network) (well : WellFormed n) where
-  pub members-operables : (xs : List ℕ) → xs ≡ bits 96 (n .links) (operable? (netOf n)) → members xs (n .links) ≡ operables (netOf n)
-  unfolding members operables netOf gridOf
-  members-operables xs e =
-      those-ext (n .links) _ _ (λ l k. ap (λ (ys : List ℕ). isIn ys l) e ∙ isIn-bits 96 (n .links) (operable? (netOf n)) l (well .links-fit) k)
-
+module _ (n : Network) (well : WellFormed n) (op : ℕ → Bool) (free : (l : ℕ) → op l ≡ true → netOf n .fixed l ≡ false) where
   abbrev ops : List ℕ
-  ops = operables (netOf n)
+  ops = operablesBy (netOf n) op
 
   abbrev sw : Switches
-  sw = switchList n (operables (netOf n))
+  sw = switchList n (operablesBy (netOf n) op)
 
-  pub operable-in : (i : ℕ) → i < length ops → (at ops i < n .links) × (operable? (netOf n) (at ops i) ≡ true)
-  unfolding operables netOf gridOf
-  operable-in i k = those-out (n .links) (operable? (netOf n)) (at ops i) (at-member ops i k)
+  pub operable-in : (i : ℕ) → i < length ops → (at ops i < n .links) × (op (at ops i) ≡ true)
+  unfolding operablesBy netOf gridOf
+  operable-in i k = those-out (n .links) op (at ops i) (at-member ops i k)
 
   ops-rising : (i j : ℕ) → i < j → j < length ops → at ops i < at ops j
-  unfolding operables
-  ops-rising = at-rising ops (those-rising (netOf n .grid .K) (operable? (netOf n)))
+  unfolding operablesBy
+  ops-rising = at-rising ops (those-rising (netOf n .grid .K) op)
 
   -- a link that is none of them is not operable
-  others-fixed : (l : ℕ) → l < n .links → ((j : ℕ) → j < length ops → l ≡ at ops j → ⊥) → operable? (netOf n) l ≡ false
-  unfolding operables netOf gridOf
-  others-fixed l k h = go (operable? (netOf n) l) refl
+  others-fixed : (l : ℕ) → l < n .links → ((j : ℕ) → j < length ops → l ≡ at ops j → ⊥) → op l ≡ false
+  unfolding operablesBy netOf gridOf
+  others-fixed l k h = go (op l) refl
     where
-      go : (t : Bool) → operable? (netOf n) l ≡ t → operable? (netOf n) l ≡ false
-      go true t = let r = member-at ops l (those-in (n .links) (operable? (netOf n)) l k t) in absurd (h (r .0) (r .1) (r .2))
+      go : (t : Bool) → op l ≡ t → op l ≡ false
+      go true t = let r = member-at ops l (those-in (n .links) op l k t) in absurd (h (r .0) (r .1) (r .2))
       go false t = t
 
   -- ---- the arrays
@@ -269,7 +260,7 @@ module _ (n : Network) (well : WellFormed n) where
     closed-at i k =
         ap (λ x. eqb x 1) (column-in ops (λ l. gate (eqb (at (n .form) l) 2) 1) few i k)
         ∙ gate-bit (eqb (at (n .form) (at ops i)) 2)
-        ∙ ap (λ b. b || eqb (at (n .form) (at ops i)) 2) (sym (operable?-out (netOf n) (formed-net n well) (at ops i) (operable-in i k .1) .switch))
+        ∙ ap (λ b. b || eqb (at (n .form) (at ops i)) 2) (sym (free (at ops i) (operable-in i k .1)))
 
     pub price-at : (i : ℕ) → i < length ops → at (sw .price) i ≡ netOf n .cost (at ops i)
     unfolding switchList netOf
@@ -282,15 +273,15 @@ module _ (n : Network) (well : WellFormed n) where
       apart = λ i j h k q. omega (arith, q, ops-rising i j h k, link-at i (omega arith), link-at j k);
     }
 
-    set-same : (s l : ℕ) → setOf (at (sw .link)) (length ops) s l ≡ switchesOf (netOf n) s l
+    set-same : (s l : ℕ) → setOf (at (sw .link)) (length ops) s l ≡ setIn ops s l
     unfolding setIn
     set-same s l = set-ext (at (sw .link)) (at ops) (length ops) s l link-at
 
     -- the states of the set: those at the start, with its switches turned over
     pub states-flipped : (states : List ℕ) → length states ≡ 96
-        → ((l : ℕ) → l < n .links → operable? (netOf n) l ≡ false → isIn states l ≡ netOf n .startClosed l)
+        → ((l : ℕ) → l < n .links → op l ≡ false → isIn states l ≡ netOf n .startClosed l)
         → (s l : ℕ) → l < n .links
-        → isIn (withSet (at (sw .link)) (at (sw .closed)) (length ops) s states) l ≡ flip (netOf n .startClosed) (switchesOf (netOf n) s) l
+        → isIn (withSet (at (sw .link)) (at (sw .closed)) (length ops) s states) l ≡ flip (netOf n .startClosed) (setIn ops s) l
     unfolding flip
     states-flipped states long others s l k =
         states-differ (netOf n .startClosed) (at (sw .link)) (at (sw .closed)) (length ops)
@@ -301,7 +292,7 @@ module _ (n : Network) (well : WellFormed n) where
 
     -- the switches of the set, as states from none
     pub set-operated : (s l : ℕ) → l < n .links
-        → isIn (withSet (at (sw .link)) (at (replicate 16 0)) (length ops) s (replicate 96 0)) l ≡ switchesOf (netOf n) s l
+        → isIn (withSet (at (sw .link)) (at (replicate 16 0)) (length ops) s (replicate 96 0)) l ≡ setIn ops s l
     set-operated s l k =
         states-differ (λ _. false) (at (sw .link)) (at (replicate 16 0)) (length ops)
         (λ j h. (omega (arith, zero-at 16 j), ap (λ x. eqb x 1) (zero-at 16 j)))
@@ -310,5 +301,5 @@ module _ (n : Network) (well : WellFormed n) where
         ∙ set-same s l
 
     -- what the set costs
-    pub price-set : (s : ℕ) → priceOf (at (sw .price)) (length ops) s ≡ setCost (netOf n) (switchesOf (netOf n) s)
-    price-set s = price-ext (at (sw .price)) (λ i. netOf n .cost (at ops i)) (length ops) s price-at ∙ price-cost (netOf n) s
+    pub price-set : (s : ℕ) → priceOf (at (sw .price)) (length ops) s ≡ setCost (netOf n) (setIn ops s)
+    price-set s = price-ext (at (sw .price)) (λ i. netOf n .cost (at ops i)) (length ops) s price-at ∙ price-cost (netOf n) op s

@@ -14,11 +14,12 @@ use Rattle.feeding.specs.Networks.{gridOf, netOf}
 use Rattle.feeding.specs.Parts.{touches, far, relabel, merge, link, labels, label, joined?, sound?, live?}
 use Rattle.feeding.specs.Loads.{leads, elementLoad, above, elementOver, lowestOver}
 use Rattle.feeding.specs.Safety.{loopAt, looped?, paired?, faultLive?, treePlace, pairPlace, faultPlace, safe?}
-use Rattle.feeding.specs.Restoration.{spoiled?, clean, restorable?, waits?, operable?, operables, restored?, fedLoad, darkLoad, lostLoad}
+use Rattle.feeding.specs.Restoration.{spoiled?, clean, restorable?, waits?, operable?, operablesBy, restored?, fedLoad, darkLoad, lostLoad}
 use Rattle.feeding.specs.Plans.{put, run, costOf, sweep, printedForm, flip, setCost}
-use Rattle.feeding.specs.Acceptance.{brokenAt, safety, limited, andThen, acceptance}
-use Rattle.feeding_acceptance.specs.Reading.{handedOut, acceptedFrom, acceptedRead}
-use Rattle.plan_problem.specs.Choosing.{works?, firstIf, noDearer, better, best, planned}
+use Rattle.feeding.specs.Acceptance.{brokenAt, safety, limited, andThen, acceptanceBy}
+use Rattle.feeding_acceptance.specs.Reading.{unadmitted, handedOut, acceptedFrom, acceptedRead}
+use Rattle.feeding_start.specs.Starting.{startWith}
+use Rattle.plan_problem.specs.Choosing.{worksBy, firstIf, noDearer, better, best, plannedBy, printedPlan}
 use Rattle.plan_sums.specs.Sums.{sumsAfter}
 use Rattle.file_plan.specs.PlanFiles.{emptyPlan, withStep, planEndOn, stepsOn, planFile}
 use Rattle.file_plan.specs.Inputs.{planInput}
@@ -27,7 +28,7 @@ use Rattle.plan_form.specs.Printing.{withOne, planWith, stepsTo, stepsOf}
 use Rattle.file_writer.specs.Writing.{planHeadBytes, stepBytes, endBytes}
 use Rattle.texts.specs.Texts.{digits, decimal, field, lineOf, refusedLine}
 use Rattle.plan_lines.specs.Lines.{planLine, stepLine, stepLines, loadLine, planLines, noneLines}
-use Rattle.plan_outcome.specs.Outcomes.{plannedBy, unplanned, outcomeFrom, outcomeOf, outcomeAnswered, outcomeRead, outcome}
+use Rattle.plan_outcome.specs.Outcomes.{outcomeWith, outcomeWithout, outcomeFrom, outcomeOf, outcomeAnswered, outcomeRead, outcome}
 use Rattle.planner.specs.Replies.{linesWith, linesOf}
 use Rattle.judge_marks.specs.Marks.{examined, firstBad, stepExamined, stepsExamined, darkPlace, scoredBy, markAt, markAfter, markBy, costIn, cheapestCost, markOf}
 use Rattle.judge_line.specs.MarkLines.{markLine}
@@ -39,10 +40,10 @@ pub tried : map (λ c. prints (c .program) (c .input)) cases ≡ map (λ c. c .p
 unfolding emptyNetwork nextStage word lengthOf frameRules headRules elementRules linkRules planHeadRules stepRules fieldRules recordRules dueAt records elementOf
     linkOf withElement withLink endOn linksOn elementsOn networkFile networkInput networkRead sumTo allTo anyTo leastTo lowestFrom lowest
     those tabulate gridOf netOf touches far relabel merge link labels label joined? sound? live? leads elementLoad above elementOver
-    lowestOver loopAt looped? paired? faultLive? treePlace pairPlace faultPlace safe? spoiled? clean restorable? waits? operable? operables
-    restored? fedLoad darkLoad lostLoad put run costOf sweep printedForm flip setCost brokenAt safety limited andThen acceptance handedOut
-    acceptedFrom acceptedRead works? firstIf noDearer better best planned sumsAfter emptyPlan withOne planWith endBytes digits decimal field planLine
-    stepLine stepLines loadLine planLines noneLines refusedLine plannedBy unplanned outcomeFrom outcomeOf outcomeAnswered outcomeRead
+    lowestOver loopAt looped? paired? faultLive? treePlace pairPlace faultPlace safe? spoiled? clean restorable? waits? operable? operablesBy
+    restored? fedLoad darkLoad lostLoad put run costOf sweep printedForm flip setCost brokenAt safety limited andThen acceptanceBy unadmitted handedOut startWith
+    acceptedFrom acceptedRead worksBy firstIf noDearer better best plannedBy printedPlan sumsAfter emptyPlan withOne planWith endBytes digits decimal field planLine
+    stepLine stepLines loadLine planLines noneLines refusedLine outcomeWith outcomeWithout outcomeFrom outcomeOf outcomeAnswered outcomeRead
     outcome linesWith linesOf withStep planEndOn stepsOn planFile planInput planBehind bothInput bothRead stepsTo stepsOf examined firstBad
     stepExamined stepsExamined darkPlace scoredBy markAt markAfter markBy costIn cheapestCost markOf lineOf markLine markAccepted markRead markOfRead
     markFor planHeadBytes stepBytes head element joins networkB networkD noSteps closing text prints plans marks cases

@@ -8,6 +8,7 @@ use Prim.Native.Nat.{ℕ, _≤_}
 use native.Mathlib.Omega.{arith}
 use lib.ListN.{length}
 use Rattle.network.specs.declared.Network.{Network}
+use Rattle.feeding.specs.Tasks.{mostOperable}
 use Rattle.feeding.specs.Networks.{netOf}
 use Rattle.feeding.specs.Plans.{Step, ValidPlan, costOf, operations, printedForm}
 use Rattle.feeding.proofs.Below.{gate-le}
@@ -68,7 +69,7 @@ module _ (s : List ℕ) (bytes : Bytes s) (n : Network) (accepted : AcceptedNetw
 
   -- ---- by rule 18 it has at most 12 steps, and its file at most 106 bytes: TAMCHUWE_PLAN_FILE_LENGTH
 
-  pub few-steps : length q ≤ 12
+  pub few-steps : length q ≤ mostOperable
   few-steps =
       let starts = network-starts s bytes n accepted in
       promised-few (netOf n) (formed-net n (starts .0)) (starts .1) q cost (printed-promises s bytes n accepted q cost l printed .promised)

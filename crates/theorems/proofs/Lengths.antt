@@ -1,4 +1,4 @@
--- A printed plan has at most 12 steps, and texts are at most as long as the C header states: by rule 18, by the widths of the fields, and by the places, which lie in the first 4,096 bytes.
+-- A printed plan has at most as many steps as switches may be operable, and texts are at most as long as the C header states: by rule 18, by the widths of the fields, and by the places, which lie in the first 4,096 bytes.
 -- Assumes nothing.
 use mathlib.Core.Path.{_≡_, refl, sym, ap, ap₂, subst, _∙_}
 use mathlib.Core.Bool.{Bool, true, false, not, _&&_}
@@ -22,14 +22,15 @@ use Rattle.feeding.specs.Networks.{Net, Formed, netOf, gridOf}
 use Rattle.feeding.specs.Acceptance.{Answered, Starts}
 use Rattle.feeding.specs.Acceptance as Acceptance
 use Rattle.feeding.specs.Parts.{Config}
-use Rattle.feeding.specs.Restoration.{Operable, Operables, operable?, operables, totalLoad}
+use Rattle.feeding.specs.Restoration.{Operable, Operables, operable?, operables, operablesBy, totalLoad}
+use Rattle.feeding.specs.Tasks.{mostOperable, restoration}
 use Rattle.feeding.specs.Plans.{Step, Good, sweep, printedForm, costOf, run}
 use Rattle.feeding.proofs.Below.{gate-mono, gate-le}
 use Rattle.feeding.proofs.Sums.{sumTo-add, sumTo-mono, sumTo-ext, sumTo-below}
 use Rattle.feeding.proofs.Lows.{length-those}
 use Rattle.feeding.proofs.Tests.{operable?-in}
 use Rattle.feeding.proofs.Answers.{operables-counted, operables-unique}
-use Rattle.feeding.proofs.Views.{formed-net}
+use Rattle.feeding.proofs.Views.{formed-net, lawful}
 use Rattle.plan_problem.specs.Choosing.{Promised}
 use Rattle.plan_sums.specs.declared.Sums.{Sums}
 use Rattle.texts.specs.Texts.{field, feed, lineOf, refusedWord, refusedLine}
@@ -60,7 +61,7 @@ use Rattle.planner.specs.Replies.{planTextOf, stepTexts, PlannerReply}
 use Rattle.judge.specs.Judging.{AcceptedPlan, FirstRuleBoth, JudgeReply}
 use Rattle.theorems.specs.Words.{planText, markText}
 
--- ---- at most 12 steps
+-- ---- at most as many steps as switches may be operable
 
 one-group : (d s : Bool) → gate (d && s) 1 + gate (d && not s) 1 ≡ gate d 1
 one-group false s = refl
@@ -75,8 +76,8 @@ form-length net D =
     ∙ sym (sumTo-add (net .grid .K) (λ l. gate (D l && net .startClosed l) 1) (λ l. gate (D l && not (net .startClosed l)) 1))
     ∙ sumTo-ext (net .grid .K) _ _ (λ l _. one-group (D l) (net .startClosed l))
 
-pub promised-few : (net : Net) → Formed (net .grid) → Starts net → (q : List Step) (cost : ℕ) → Promised net q cost → length q ≤ 12
-unfolding operables
+pub promised-few : (net : Net) → Formed (net .grid) → Starts net → (q : List Step) (cost : ℕ) → Promised net q cost → length q ≤ mostOperable
+unfolding operablesBy
 promised-few net formed starts q cost p =
     let all = sumTo-mono (net .grid .K) (λ l. gate (p .set l) 1) (λ l. gate (operable? net l) 1)
     (λ l _. gate-mono (p .set l) (operable? net l) 1 1 (λ e. operable?-in net formed l (p .picked .restores .operable l e)) (omega arith)) in
@@ -141,10 +142,10 @@ module _ (n : Network) (w : WellFormed n) where
   unfolding netOf gridOf
   links-few = w .links-fit
 
-  operables-few : (m : ℕ) → Operables (netOf n) m → m ≤ 96
-  unfolding operables
+  operables-few : (m : ℕ) → Operables (Operable (netOf n)) m → m ≤ 96
+  unfolding operablesBy
   operables-few m o =
-      let is = operables-unique (netOf n) m (length (operables (netOf n))) o (operables-counted (netOf n) (formed-net n w)) in
+      let is = operables-unique (Operable (netOf n)) m (length (operables (netOf n))) o (operables-counted (netOf n) (restoration (netOf n)) (lawful n w)) in
       omega (
         arith,
         is,
@@ -216,7 +217,7 @@ plan-length : (n : Network) → WellFormed n → Starts (netOf n) → (q : List 
 unfolding planTextOf planLine
 plan-length n w starts q cost l p h =
     let few = promised-few (netOf n) (formed-net n w) starts q cost p in
-    let paid : cost ≤ 65535 * 12 = omega (arith, p .own, costs-within n w (netOf n .startClosed) q (p .valid .good), few) in
+    let paid : cost ≤ 65535 * mostOperable = omega (arith, p .own, costs-within n w (netOf n .startClosed) q (p .valid .good), few) in
     omega (
       arith,
       length-append (lineOf planWord (length q) cost ++ stepTexts q) (loadLine l),

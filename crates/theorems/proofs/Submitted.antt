@@ -24,7 +24,8 @@ use Rattle.file_writer.specs.Writing.{planBytes, planLength}
 use Rattle.file_writer.proofs.RoundTrip.{SameSteps, firstSteps, first-same, round-trip-input}
 use Rattle.feeding.specs.Networks.{netOf, gridOf}
 use Rattle.feeding.specs.Plans.{Step, printedForm}
-use Rattle.plan_problem.specs.Choosing.{Choice, nothing, chosen, planned}
+use Rattle.plan_problem.specs.Choosing.{Choice, nothing, chosen, planned, printedPlan}
+use Rattle.feeding_start.specs.Starting.{startWith}
 use Rattle.plan_form.specs.Printing.{stepsTo, stepsOf}
 use Rattle.plan_form.proofs.Steps.{plan-well-formed, printed-length, printed-below}
 use Rattle.feeding_acceptance.specs.Reading as Admissions
@@ -38,7 +39,7 @@ use Rattle.judge.specs.Judging.{markAccepted, markRead, markOfRead, markFor}
 use Rattle.plan_outcome.specs.declared.Planned.{Planned}
 use Rattle.plan_outcome.specs.declared.Reply.the-variants as Reply·
 use Rattle.plan_outcome.specs.declared.Outcome as Outcomes·
-use Rattle.plan_outcome.specs.Outcomes.{plannedBy, unplanned, outcomeFrom, outcomeOf, outcomeAnswered, outcomeRead, outcome}
+use Rattle.plan_outcome.specs.Outcomes.{outcomeWith, outcomeWithout, outcomeFrom, outcomeOf, outcomeAnswered, outcomeRead, outcome}
 use Rattle.file_refusals.proofs.Reading.{network-read, both-read}
 use Rattle.feeding_acceptance.specs.Reading.{Bytes, AcceptedNetwork}
 use Rattle.judge.specs.Judging.{AcceptedPlan}
@@ -58,16 +59,16 @@ same-steps p q same = ap (stepsTo q) (same .steps) ∙ steps-to p q same (p .ste
 
 -- ---- the planner's plan is well formed
 
-chosen-formed : (n : Network) → WellFormed n → (c : Choice) (p : Planned) → outcomeFrom n c .reply ≡ Reply·.Plan p
-    → WellFormedPlan (n .links) (outcomeFrom n c .plan)
-unfolding outcomeFrom unplanned plannedBy netOf gridOf
+chosen-formed : (n : Network) → WellFormed n → (c : Choice) (p : Planned) → outcomeFrom n (printedPlan (netOf n) c) .reply ≡ Reply·.Plan p
+    → WellFormedPlan (n .links) (outcomeFrom n (printedPlan (netOf n) c) .plan)
+unfolding outcomeFrom outcomeWithout outcomeWith printedPlan netOf gridOf
 chosen-formed n w nothing p e = let z : _≡_ {A = ℕ} 0 1 = cc in absurd (omega arith)
 chosen-formed n w (chosen D) p e =
     plan-well-formed (n .links) (printedForm (netOf n) D) (omega (arith, printed-length (netOf n) D, w .links-fit)) (printed-below (netOf n) D)
 
 module _ (s : List ℕ) (bytes : Bytes s) (n : Network) (a : AcceptedNetwork s n) where
   outcome-is : outcome s ≡ outcomeOf n
-  unfolding outcome outcomeRead outcomeAnswered
+  unfolding outcome outcomeRead outcomeAnswered startWith
   outcome-is = ap outcomeRead (sym (admission-only s bytes _ (Admissions.accepted n a)))
 
   plan-formed : (p : Planned) → outcome s .reply ≡ Reply·.Plan p → WellFormedPlan (n .links) (outcome s .plan)

@@ -1,5 +1,6 @@
 -- The lists of the network and of its ends are those that `check_lists` asks for.
 -- Assumes nothing.
+use Rattle.feeding.specs.Networks.{netOf}
 use Rattle.feeding_safety.proofs.Networks.{checked-all}
 use borrow.Author.Needs.{needs}
 use Rattle.feeding_safety.proofs.check.Statement.{statement}
@@ -39,11 +40,12 @@ slice-aggregate-check-lists-8 c =
 
 check-lists-requires : tie.Need-check-lists-requires
 check-lists-requires c κs =
-    let args· = c .before .before .before .before .before .before .before .before .before .before .before .before .before .before .before .before .before .args in
-    let pre· = c .before .before .before .before .before .before .before .before .before .before .before .before .before .before .before .before .before .pre in
-    checked-all (args· .net) (pre· .0) (args· .own) (args· .closed .now) (pre· .1 .0) (pre· .1 .1)
+    let args· = c .before .before .before .before .before .before .before .before .before .before .before .before .before .before .before .before .before .before .before .args in
+    let pre· = c .before .before .before .before .before .before .before .before .before .before .before .before .before .before .before .before .before .before .before .pre in
+    (checked-all (args· .net) (pre· .0) (args· .own) (args· .closed .now) (pre· .1 .0) (pre· .1 .1 .0), (pre· .1 .1 .1 .0, (pre· .1 .1 .1 .1 .0, pre· .1 .1 .1 .1 .1)))
 
 returns : tie.Need-returns
+unfolding netOf
 returns c =
     c .check-lists .ensures
 

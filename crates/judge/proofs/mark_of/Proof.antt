@@ -1,7 +1,7 @@
 -- `judge::mark_of` meets its contract: each arm's mark is the definition's, and this keeps what the paper says.
 -- Assumes nothing.
 use native.Mathlib.Omega.{arith}
-use Rattle.judge.proofs.Ways.{returned, unread-mark, unaccepted-mark, plan-mark, read-starts, read-plan, read-network}
+use Rattle.judge.proofs.Ways.{returned, unread-mark, unaccepted-mark, plan-mark, read-begun, read-plan, read-network}
 use borrow.Author.Needs.{needs}
 use Rattle.judge.proofs.mark_of.Statement.{statement}
 use Rattle.judge.proofs.mark_of.Tie as tie
@@ -25,8 +25,8 @@ accept-requires c κs =
     let read-network-and-plan· = c .before .before .before .before .read-network-and-plan in
     read-network (args· .s .now) (λ i. omega (arith, shared-slice-known· .given i)) (read-network-and-plan· .result) (read-network-and-plan· .ensures) (c .enum-told .given .1)
 
-enum-known-start : tie.Need-enum-known-start
-enum-known-start c =
+enum-known-verdict : tie.Need-enum-known-verdict
+enum-known-verdict c =
     search needs
 
 enum-told-2 : tie.Need-enum-told-2
@@ -40,7 +40,8 @@ marked-requires c κs =
     let read-network-and-plan· = c .before .before .before .before .before .before .before .read-network-and-plan in
     let enum-told· = c .before .before .before .enum-told in
     let accept· = c .before .before .accept in
-    (read-starts (args· .s .now) (λ i. omega (arith, shared-slice-known· .given i)) (read-network-and-plan· .result) (read-network-and-plan· .ensures) (enum-told· .given .1) (accept· .result) (accept· .ensures) (c .enum-told2 .given .1), read-plan (args· .s .now) (λ i. omega (arith, shared-slice-known· .given i)) (read-network-and-plan· .result) (read-network-and-plan· .ensures) (enum-told· .given .1) (accept· .result) (accept· .ensures))
+    let enum-told2· = c .enum-told2 in
+    (read-begun (args· .s .now) (λ i. omega (arith, shared-slice-known· .given i)) (read-network-and-plan· .result) (read-network-and-plan· .ensures) (enum-told· .given .1) (accept· .result) (accept· .ensures) (enum-told2· .given .1), read-plan (args· .s .now) (λ i. omega (arith, shared-slice-known· .given i)) (read-network-and-plan· .result) (read-network-and-plan· .ensures) (enum-told· .given .1) (accept· .result) (accept· .ensures) (enum-told2· .given .1))
 
 returns : tie.Need-returns
 returns c =
@@ -56,7 +57,7 @@ returns-2 c =
     let read-network-and-plan· = c .before .before .before .before .before .before .before .before .read-network-and-plan in
     let enum-told· = c .before .before .before .before .enum-told in
     let accept· = c .before .before .before .accept in
-    returned (args· .s .now) (λ i. omega (arith, shared-slice-known· .given i)) (read-network-and-plan· .result) (read-network-and-plan· .ensures) _ (unaccepted-mark (args· .s .now) (λ i. omega (arith, shared-slice-known· .given i)) (read-network-and-plan· .result) (read-network-and-plan· .ensures) (enum-told· .given .1) (accept· .result) (accept· .ensures) _ (c .before .start .given .1))
+    returned (args· .s .now) (λ i. omega (arith, shared-slice-known· .given i)) (read-network-and-plan· .result) (read-network-and-plan· .ensures) _ (unaccepted-mark (args· .s .now) (λ i. omega (arith, shared-slice-known· .given i)) (read-network-and-plan· .result) (read-network-and-plan· .ensures) (enum-told· .given .1) (accept· .result) (accept· .ensures) _ (c .before .verdict .given .1))
 
 returns-3 : tie.Need-returns-3
 returns-3 c =
@@ -75,7 +76,7 @@ mark-of-spec =
     enum-known-answer
     enum-told
     accept-requires
-    enum-known-start
+    enum-known-verdict
     enum-told-2
     marked-requires
     returns

@@ -1,40 +1,22 @@
 -- The first bad step: each turn is one step from a safe configuration, and the steps left give the whole answer.
 -- Assumes nothing.
-use mathlib.Core.Path.{_≡_, refl, _∙_}
-use Prim.Native.Nat.{ℕ, _-_}
 use borrow.Author.Needs.{needs}
+use mathlib.Core.Path.{_≡_, refl, _∙_}
+use Prim.Native.Nat.{_-_}
 use native.Mathlib.Omega.{arith}
-use lib.ListN.{length-replicate}
-use Rattle.feeding_safety.proofs.Networks.{two-ends}
+use Rattle.feeding_restoration.proofs.Reach.{bits-long}
+use Rattle.feeding_start.proofs.Starts.{own-of, closed-of, operable-of}
 use Rattle.judge_examine.proofs.Examining.{Examining, first-turn, last-turn, steppable, bad-turn, good-turn}
 use Rattle.judge_examine.proofs.examine.Statement.{statement}
 use Rattle.judge_examine.proofs.examine.Tie as tie
 
 abbrev Inv-loop : tie.InvT-loop
-Inv-loop net operable plan chain rating sign₀ closed₀ count i₀ sign closed i =
+Inv-loop plan net operable chain rating sign₀ closed₀ count i₀ sign closed i =
     Examining net operable plan closed i × (sign ≡ sign₀)
 
 abbrev μ-loop : tie.MeasureT-loop
-μ-loop net operable plan chain rating sign₀ closed₀ count i₀ sign closed i =
+μ-loop plan net operable chain rating sign₀ closed₀ count i₀ sign closed i =
     count - i
-
-slice-aggregate-own-ends : tie.Need-slice-aggregate-own-ends Inv-loop μ-loop
-slice-aggregate-own-ends c =
-    search needs
-
-slice-aggregate-own-ends-2 : tie.Need-slice-aggregate-own-ends-2 Inv-loop μ-loop
-slice-aggregate-own-ends-2 c =
-    search needs
-
-slice-aggregate-own-ends-3 : tie.Need-slice-aggregate-own-ends-3 Inv-loop μ-loop
-slice-aggregate-own-ends-3 c =
-    search needs
-
-own-ends-requires : tie.Need-own-ends-requires Inv-loop μ-loop
-own-ends-requires c κs =
-    let args· = c .before .before .before .before .before .before .before .before .before .before .args in
-    let pre· = c .before .before .before .before .before .before .before .before .before .before .pre in
-    two-ends (args· .net) (pre· .0 .0) _ (length-replicate {A = ℕ} 96 1)
 
 packed-ends-requires : tie.Need-packed-ends-requires Inv-loop μ-loop
 packed-ends-requires c κs =
@@ -50,8 +32,8 @@ slice-aggregate-packed-rating-2 c =
 
 packed-rating-requires : tie.Need-packed-rating-requires Inv-loop μ-loop
 packed-rating-requires c κs =
-    let pre· = c .before .before .before .before .before .before .before .before .before .before .before .before .before .before .pre in
-    (pre· .0 .0 .load-long, pre· .0 .0 .capacity-long)
+    let pre· = c .before .before .before .before .before .before .before .before .pre in
+    (pre· .0 .formed .load-long, pre· .0 .formed .capacity-long)
 
 slice-aggregate-signs-of : tie.Need-slice-aggregate-signs-of Inv-loop μ-loop
 slice-aggregate-signs-of c =
@@ -59,16 +41,8 @@ slice-aggregate-signs-of c =
 
 signs-of-requires : tie.Need-signs-of-requires Inv-loop μ-loop
 signs-of-requires c κs =
-    let pre· = c .before .before .before .before .before .before .before .before .before .before .before .before .before .before .before .before .pre in
-    pre· .0 .0 .flags-long
-
-slice-aggregate-members-of : tie.Need-slice-aggregate-members-of Inv-loop μ-loop
-slice-aggregate-members-of c =
-    search needs
-
-members-of-requires : tie.Need-members-of-requires Inv-loop μ-loop
-members-of-requires c κs =
-    search needs
+    let pre· = c .before .before .before .before .before .before .before .before .before .before .pre in
+    pre· .0 .formed .flags-long
 
 cast-count : tie.Need-cast-count Inv-loop μ-loop
 cast-count c =
@@ -76,60 +50,58 @@ cast-count c =
 
 loop-holds : tie.Need-loop-holds Inv-loop μ-loop
 loop-holds c =
-    let args· = c .before .before .before .before .before .before .before .before .before .before .before .before .before .before .before .before .before .before .before .args in
-    let pre· = c .before .before .before .before .before .before .before .before .before .before .before .before .before .before .before .before .before .before .before .pre in
-    let members-of· = c .members-of in
-    (first-turn (args· .net) (pre· .0 .0) (args· .operable .now) (args· .t3) (pre· .1 .1) (pre· .0 .1) (members-of· .result) (members-of· .ensures), refl)
+    let args· = c .before .before .before .before .before .before .before .before .before .before .before .before .args in
+    let pre· = c .before .before .before .before .before .before .before .before .before .before .before .before .pre in
+    (first-turn (args· .start .net) (pre· .0 .formed) (args· .start .operable) (args· .t2) (pre· .1) (pre· .0 .safe) (args· .start .closed) (closed-of (args· .start) _ (pre· .0 .made)), refl)
 
 mul-l : tie.Need-mul-l Inv-loop μ-loop
 mul-l c =
-    let pre· = c .before .before .before .before .before .before .before .before .before .before .before .before .before .before .before .before .before .before .before .before .before .pre in
-    omega (arith, c .loop-test .taken, pre· .1 .1 .steps-fit)
+    let pre· = c .before .before .before .before .before .before .before .before .before .before .before .before .before .before .pre in
+    omega (arith, c .loop-test .taken, pre· .1 .steps-fit)
 
 element-copy-out-l : tie.Need-element-copy-out-l Inv-loop μ-loop
 element-copy-out-l c =
-    let pre· = c .before .before .before .before .before .before .before .before .before .before .before .before .before .before .before .before .before .before .before .before .before .pre in
-    omega (arith, c .loop-test .taken, pre· .1 .1 .steps-fit)
+    let pre· = c .before .before .before .before .before .before .before .before .before .before .before .before .before .before .pre in
+    omega (arith, c .loop-test .taken, pre· .1 .steps-fit)
 
 cast-l : tie.Need-cast-l Inv-loop μ-loop
 cast-l c =
-    let pre· = c .before .before .before .before .before .before .before .before .before .before .before .before .before .before .before .before .before .before .before .before .before .before .pre in
-    omega (arith, pre· .0 .0 .links-fit, pre· .1 .1 .link-in (c .before .before .loop .i) (omega arith))
+    let pre· = c .before .before .before .before .before .before .before .before .before .before .before .before .before .before .before .pre in
+    omega (arith, pre· .0 .formed .links-fit, pre· .1 .link-in (c .before .before .loop .i) (omega (arith, c .before .loop-test .taken)))
 
 element-copy-out-state-of : tie.Need-element-copy-out-state-of Inv-loop μ-loop
 element-copy-out-state-of c =
-    let pre· = c .before .before .before .before .before .before .before .before .before .before .before .before .before .before .before .before .before .before .before .before .before .before .pre in
-    omega (arith, c .before .loop-test .taken, pre· .1 .1 .steps-fit)
+    let pre· = c .before .before .before .before .before .before .before .before .before .before .before .before .before .before .before .pre in
+    omega (arith, c .before .loop-test .taken, pre· .1 .steps-fit)
 
 state-of-requires : tie.Need-state-of-requires Inv-loop μ-loop
 state-of-requires c κs =
     search needs
 
-shared-slice-read-examine-step : tie.Need-shared-slice-read-examine-step Inv-loop μ-loop
-shared-slice-read-examine-step c =
-    let pre· = c .before .before .before .before .before .before .before .before .before .before .before .before .before .before .before .before .before .before .before .before .before .before .before .before .before .before .before .before .before .pre in
-    let loop· = c .before .before .before .before .before .before .before .before .before .loop in
-    omega (arith, pre· .1 .0, pre· .1 .1 .link-in (loop· .i) (omega arith))
+array-read-examine-step : tie.Need-array-read-examine-step Inv-loop μ-loop
+array-read-examine-step c =
+    let args· = c .before .before .before .before .before .before .before .before .before .before .before .before .before .before .before .before .before .before .before .before .before .args in
+    let pre· = c .before .before .before .before .before .before .before .before .before .before .before .before .before .before .before .before .before .before .before .before .before .pre in
+    let loop· = c .before .before .before .before .before .before .before .before .loop in
+    let loop-test· = c .before .before .before .before .before .before .before .loop-test in
+    omega (arith, bits-long _ _ _ (operable-of (args· .start) _ (pre· .0 .made)), pre· .0 .formed .links-fit, pre· .1 .link-in (loop· .i) (omega (arith, loop-test· .taken)))
 
 add-examine-step : tie.Need-add-examine-step Inv-loop μ-loop
 add-examine-step c =
-    let loop-test· = c .before .before .before .before .before .before .before .before .loop-test in
-    let pre· = c .before .before .before .before .before .before .before .before .before .before .before .before .before .before .before .before .before .before .before .before .before .before .before .before .before .before .before .before .before .pre in
-    omega (arith, loop-test· .taken, pre· .1 .1 .steps-fit)
+    let loop-test· = c .before .before .before .before .before .before .before .loop-test in
+    let pre· = c .before .before .before .before .before .before .before .before .before .before .before .before .before .before .before .before .before .before .before .before .before .pre in
+    omega (arith, loop-test· .taken, pre· .1 .steps-fit)
 
 examine-step-requires : tie.Need-examine-step-requires Inv-loop μ-loop
 examine-step-requires c κs =
-    let args· = c .before .before .before .before .before .before .before .before .before .before .before .before .before .before .before .before .before .before .before .before .before .before .before .before .before .before .before .before .before .args in
-    let pre· = c .before .before .before .before .before .before .before .before .before .before .before .before .before .before .before .before .before .before .before .before .before .before .before .before .before .before .before .before .before .pre in
-    let packed-ends· = c .before .before .before .before .before .before .before .before .before .before .before .before .before .before .before .before .before .packed-ends in
-    let loop· = c .before .before .before .before .before .before .before .before .before .loop in
-    let packed-rating· = c .before .before .before .before .before .before .before .before .before .before .before .before .before .before .packed-rating in
-    let own-ends· = c .before .before .before .before .before .before .before .before .before .before .before .before .before .before .before .before .before .before .own-ends in
-    let signs-of· = c .before .before .before .before .before .before .before .before .before .before .before .before .signs-of in
-    let loop-test· = c .before .before .before .before .before .before .before .before .loop-test in
-    steppable (args· .net) (pre· .0 .0) (args· .operable .now) (args· .t3) (pre· .1 .1)
-    (packed-ends· .result) (loop· .sign) (packed-rating· .result) (record { own = own-ends· .result; own-is = own-ends· .ensures; chain-is = packed-ends· .ensures; sign-is = loop· .inv .1 ∙ signs-of· .ensures; rating-is = packed-rating· .ensures })
-    (loop· .closed) (loop· .i) (loop· .inv .0) (omega (arith, loop-test· .taken))
+    let args· = c .before .before .before .before .before .before .before .before .before .before .before .before .before .before .before .before .before .before .before .before .before .args in
+    let pre· = c .before .before .before .before .before .before .before .before .before .before .before .before .before .before .before .before .before .before .before .before .before .pre in
+    let packed-ends· = c .before .before .before .before .before .before .before .before .before .before .before .before .before .before .before .packed-ends in
+    let loop· = c .before .before .before .before .before .before .before .before .loop in
+    let packed-rating· = c .before .before .before .before .before .before .before .before .before .before .before .before .packed-rating in
+    let signs-of· = c .before .before .before .before .before .before .before .before .before .before .signs-of in
+    let loop-test· = c .before .before .before .before .before .before .before .loop-test in
+    steppable (args· .start .net) (pre· .0 .formed) (args· .start .operable) (args· .t2) (pre· .1) (packed-ends· .result) (loop· .sign) (packed-rating· .result) (record { own = args· .start .own; own-is = own-of (args· .start) _ (pre· .0 .made); chain-is = packed-ends· .ensures; sign-is = loop· .inv .1 ∙ signs-of· .ensures; rating-is = packed-rating· .ensures }) (loop· .closed) (loop· .i) (loop· .inv .0) (omega (arith, loop-test· .taken))
 
 enum-told : tie.Need-enum-told Inv-loop μ-loop
 enum-told c =
@@ -141,26 +113,22 @@ enum-told-2 c =
 
 returns : tie.Need-returns Inv-loop μ-loop
 returns c =
-    let args· = c .before .before .before .before .before .before .before .before .before .before .before .before .before .before .before .before .before .before .before .before .before .before .before .before .before .before .before .before .before .before .before .before .args in
-    let pre· = c .before .before .before .before .before .before .before .before .before .before .before .before .before .before .before .before .before .before .before .before .before .before .before .before .before .before .before .before .before .before .before .before .pre in
-    let packed-ends· = c .before .before .before .before .before .before .before .before .before .before .before .before .before .before .before .before .before .before .before .before .packed-ends in
-    let loop· = c .before .before .before .before .before .before .before .before .before .before .before .before .loop in
-    let packed-rating· = c .before .before .before .before .before .before .before .before .before .before .before .before .before .before .before .before .before .packed-rating in
-    let own-ends· = c .before .before .before .before .before .before .before .before .before .before .before .before .before .before .before .before .before .before .before .before .before .own-ends in
-    let signs-of· = c .before .before .before .before .before .before .before .before .before .before .before .before .before .before .before .signs-of in
-    let loop-test· = c .before .before .before .before .before .before .before .before .before .before .before .loop-test in
-    let state-of· = c .before .before .before .before .before .before .before .before .state-of in
+    let args· = c .before .before .before .before .before .before .before .before .before .before .before .before .before .before .before .before .before .before .before .before .before .before .before .before .args in
+    let pre· = c .before .before .before .before .before .before .before .before .before .before .before .before .before .before .before .before .before .before .before .before .before .before .before .before .pre in
+    let packed-ends· = c .before .before .before .before .before .before .before .before .before .before .before .before .before .before .before .before .before .before .packed-ends in
+    let loop· = c .before .before .before .before .before .before .before .before .before .before .before .loop in
+    let packed-rating· = c .before .before .before .before .before .before .before .before .before .before .before .before .before .before .before .packed-rating in
+    let signs-of· = c .before .before .before .before .before .before .before .before .before .before .before .before .before .signs-of in
+    let loop-test· = c .before .before .before .before .before .before .before .before .before .before .loop-test in
+    let state-of· = c .before .before .before .before .before .before .before .state-of in
     let examine-step· = c .before .before .examine-step in
-    bad-turn (args· .net) (pre· .0 .0) (args· .operable .now) (args· .t3) (pre· .1 .1)
-    (packed-ends· .result) (loop· .sign) (packed-rating· .result) (record { own = own-ends· .result; own-is = own-ends· .ensures; chain-is = packed-ends· .ensures; sign-is = loop· .inv .1 ∙ signs-of· .ensures; rating-is = packed-rating· .ensures })
-    (loop· .closed) (loop· .i) (loop· .inv .0) (omega (arith, loop-test· .taken))
-    (state-of· .result) (omega (arith, state-of· .ensures)) _ (omega arith) (examine-step· .result) (examine-step· .ensures .0) _ (c .enum-told2 .given .1)
+    bad-turn (args· .start .net) (pre· .0 .formed) (args· .start .operable) (args· .t2) (pre· .1) (packed-ends· .result) (loop· .sign) (packed-rating· .result) (record { own = args· .start .own; own-is = own-of (args· .start) _ (pre· .0 .made); chain-is = packed-ends· .ensures; sign-is = loop· .inv .1 ∙ signs-of· .ensures; rating-is = packed-rating· .ensures }) (loop· .closed) (loop· .i) (loop· .inv .0) (omega (arith, loop-test· .taken)) (state-of· .result) (omega (arith, state-of· .ensures)) _ (omega arith) (examine-step· .result) (examine-step· .ensures .0) _ (c .enum-told2 .given .1)
 
 add-i : tie.Need-add-i Inv-loop μ-loop
 add-i c =
-    let loop-test· = c .before .before .before .before .before .before .before .before .before .before .before .loop-test in
-    let pre· = c .before .before .before .before .before .before .before .before .before .before .before .before .before .before .before .before .before .before .before .before .before .before .before .before .before .before .before .before .before .before .before .before .pre in
-    omega (arith, loop-test· .taken, pre· .1 .1 .steps-fit)
+    let loop-test· = c .before .before .before .before .before .before .before .before .before .before .loop-test in
+    let pre· = c .before .before .before .before .before .before .before .before .before .before .before .before .before .before .before .before .before .before .before .before .before .before .before .before .pre in
+    omega (arith, loop-test· .taken, pre· .1 .steps-fit)
 
 loop-less : tie.Need-loop-less Inv-loop μ-loop
 loop-less c =
@@ -168,30 +136,24 @@ loop-less c =
 
 loop-again : tie.Need-loop-again Inv-loop μ-loop
 loop-again c =
-    let args· = c .before .before .before .before .before .before .before .before .before .before .before .before .before .before .before .before .before .before .before .before .before .before .before .before .before .before .before .before .before .before .before .before .args in
-    let pre· = c .before .before .before .before .before .before .before .before .before .before .before .before .before .before .before .before .before .before .before .before .before .before .before .before .before .before .before .before .before .before .before .before .pre in
-    let packed-ends· = c .before .before .before .before .before .before .before .before .before .before .before .before .before .before .before .before .before .before .before .before .packed-ends in
-    let loop· = c .before .before .before .before .before .before .before .before .before .before .before .before .loop in
-    let packed-rating· = c .before .before .before .before .before .before .before .before .before .before .before .before .before .before .before .before .before .packed-rating in
-    let own-ends· = c .before .before .before .before .before .before .before .before .before .before .before .before .before .before .before .before .before .before .before .before .before .own-ends in
-    let signs-of· = c .before .before .before .before .before .before .before .before .before .before .before .before .before .before .before .signs-of in
-    let loop-test· = c .before .before .before .before .before .before .before .before .before .before .before .loop-test in
-    let state-of· = c .before .before .before .before .before .before .before .before .state-of in
+    let args· = c .before .before .before .before .before .before .before .before .before .before .before .before .before .before .before .before .before .before .before .before .before .before .before .before .args in
+    let pre· = c .before .before .before .before .before .before .before .before .before .before .before .before .before .before .before .before .before .before .before .before .before .before .before .before .pre in
+    let packed-ends· = c .before .before .before .before .before .before .before .before .before .before .before .before .before .before .before .before .before .before .packed-ends in
+    let loop· = c .before .before .before .before .before .before .before .before .before .before .before .loop in
+    let packed-rating· = c .before .before .before .before .before .before .before .before .before .before .before .before .before .before .before .packed-rating in
+    let signs-of· = c .before .before .before .before .before .before .before .before .before .before .before .before .before .signs-of in
+    let loop-test· = c .before .before .before .before .before .before .before .before .before .before .loop-test in
+    let state-of· = c .before .before .before .before .before .before .before .state-of in
     let examine-step· = c .before .before .examine-step in
-    let enum-told· = c .enum-told in (
-      good-turn (args· .net) (pre· .0 .0) (args· .operable .now) (args· .t3) (pre· .1 .1)
-          (packed-ends· .result) (loop· .sign) (packed-rating· .result) (record { own = own-ends· .result; own-is = own-ends· .ensures; chain-is = packed-ends· .ensures; sign-is = loop· .inv .1 ∙ signs-of· .ensures; rating-is = packed-rating· .ensures })
-          (loop· .closed) (loop· .i) (loop· .inv .0) (omega (arith, loop-test· .taken))
-          (state-of· .result) (omega (arith, state-of· .ensures)) _ (omega arith) (examine-step· .result) (examine-step· .ensures .0) _ (examine-step· .ensures .1 .0 (enum-told· .given .1)) _ (omega arith) (enum-told· .given .1),
-      examine-step· .ensures .1 .1 ∙ loop· .inv .1,
-    )
+    let enum-told· = c .enum-told in
+    (good-turn (args· .start .net) (pre· .0 .formed) (args· .start .operable) (args· .t2) (pre· .1) (packed-ends· .result) (loop· .sign) (packed-rating· .result) (record { own = args· .start .own; own-is = own-of (args· .start) _ (pre· .0 .made); chain-is = packed-ends· .ensures; sign-is = loop· .inv .1 ∙ signs-of· .ensures; rating-is = packed-rating· .ensures }) (loop· .closed) (loop· .i) (loop· .inv .0) (omega (arith, loop-test· .taken)) (state-of· .result) (omega (arith, state-of· .ensures)) _ (omega arith) (examine-step· .result) (examine-step· .ensures .0) _ (examine-step· .ensures .1 .0 (enum-told· .given .1)) _ (omega arith) (enum-told· .given .1), examine-step· .ensures .1 .1 ∙ loop· .inv .1)
 
 returns-2 : tie.Need-returns-2 Inv-loop μ-loop
 returns-2 c =
-    let args· = c .before .before .before .before .before .before .before .before .before .before .before .before .before .before .before .before .before .before .before .before .before .args in
-    let pre· = c .before .before .before .before .before .before .before .before .before .before .before .before .before .before .before .before .before .before .before .before .before .pre in
+    let args· = c .before .before .before .before .before .before .before .before .before .before .before .before .before .before .args in
+    let pre· = c .before .before .before .before .before .before .before .before .before .before .before .before .before .before .pre in
     let loop· = c .before .loop in
-    last-turn (args· .net) (pre· .0 .0) (args· .operable .now) (args· .t3) (pre· .1 .1) (loop· .closed) (loop· .i) (loop· .inv .0) (omega arith)
+    last-turn (args· .start .net) (pre· .0 .formed) (args· .start .operable) (args· .t2) (pre· .1) (loop· .closed) (loop· .i) (loop· .inv .0) (omega arith)
 
 pub examine-spec : {M : Type 1} → statement M
 examine-spec =
@@ -199,18 +161,12 @@ examine-spec =
     (tie.spec
     Inv-loop
     μ-loop
-    slice-aggregate-own-ends
-    slice-aggregate-own-ends-2
-    slice-aggregate-own-ends-3
-    own-ends-requires
     packed-ends-requires
     slice-aggregate-packed-rating
     slice-aggregate-packed-rating-2
     packed-rating-requires
     slice-aggregate-signs-of
     signs-of-requires
-    slice-aggregate-members-of
-    members-of-requires
     cast-count
     loop-holds
     mul-l
@@ -218,7 +174,7 @@ examine-spec =
     cast-l
     element-copy-out-state-of
     state-of-requires
-    shared-slice-read-examine-step
+    array-read-examine-step
     add-examine-step
     examine-step-requires
     enum-told

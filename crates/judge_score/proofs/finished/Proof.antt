@@ -3,6 +3,7 @@
 use mathlib.Core.Path.{_∙_}
 use native.Mathlib.Omega.{arith}
 use Rattle.feeding.specs.Networks.{netOf, gridOf}
+use Rattle.feeding_start.proofs.Starts.{closed-of}
 use Rattle.plan_form.specs.Printing.{stepsOf}
 use Rattle.judge_steps.proofs.Configurations.{finished-dark}
 use Rattle.judge_steps.proofs.Front.{plan-in}
@@ -11,19 +12,11 @@ use borrow.Author.Needs.{needs}
 use Rattle.judge_score.proofs.finished.Statement.{statement}
 use Rattle.judge_score.proofs.finished.Tie as tie
 
-slice-aggregate-members-of : tie.Need-slice-aggregate-members-of
-slice-aggregate-members-of c =
-    search needs
-
-members-of-requires : tie.Need-members-of-requires
-members-of-requires c κs =
-    search needs
-
 states-after-requires : tie.Need-states-after-requires
 states-after-requires c κs =
-    let args· = c .before .before .before .args in
-    let pre· = c .before .before .before .pre in
-    plan-in (args· .net) (args· .plan) (pre· .0 .0) (pre· .1 .0)
+    let args· = c .before .args in
+    let pre· = c .before .pre in
+    plan-in (args· .start .net) (args· .plan) (pre· .0 .formed) (pre· .1 .0)
 
 slice-aggregate-lowest-dark : tie.Need-slice-aggregate-lowest-dark
 slice-aggregate-lowest-dark c =
@@ -31,44 +24,39 @@ slice-aggregate-lowest-dark c =
 
 lowest-dark-requires : tie.Need-lowest-dark-requires
 lowest-dark-requires c κs =
-    search needs
+    (c .before .before .before .pre .0, search needs)
 
 returns : tie.Need-returns
 unfolding netOf gridOf
 returns c =
-    let args· = c .before .before .before .before .before .before .before .before .args in
+    let args· = c .before .before .before .before .before .before .args in
     let lowest-dark· = c .before .before .lowest-dark in
-    let pre· = c .before .before .before .before .before .before .before .before .pre in
-    let members-of· = c .before .before .before .before .before .members-of in
+    let pre· = c .before .before .before .before .before .before .pre in
     let states-after· = c .before .before .before .before .states-after in
-    short-at (netOf (args· .net)) _ _ (lowest-dark· .result) (lowest-dark· .ensures ∙ finished-dark (args· .net) (args· .plan) _ _ (pre· .0 .0) (pre· .1 .0) (members-of· .ensures) (states-after· .ensures)) (omega arith)
+    short-at (netOf (args· .start .net)) _ _ (lowest-dark· .result) (lowest-dark· .ensures ∙ finished-dark (args· .start .net) (args· .plan) _ _ (pre· .0 .formed) (pre· .1 .0) (closed-of (args· .start) _ (pre· .0 .made)) (states-after· .ensures)) (omega (arith, (c .if1)))
 
 score-requires : tie.Need-score-requires
 unfolding netOf gridOf
 score-requires c κs =
-    let pre· = c .before .before .before .before .before .before .before .before .pre in
-    let args· = c .before .before .before .before .before .before .before .before .args in
+    let pre· = c .before .before .before .before .before .before .pre in
+    let args· = c .before .before .before .before .before .before .args in
     let lowest-dark· = c .before .before .lowest-dark in
-    let members-of· = c .before .before .before .before .before .members-of in
     let states-after· = c .before .before .before .before .states-after in
-    (pre· .0, (pre· .1 .0, good-valid (args· .net) (stepsOf (args· .plan)) (lowest-dark· .result) (pre· .0 .0) (pre· .1 .1) (lowest-dark· .ensures ∙ finished-dark (args· .net) (args· .plan) _ _ (pre· .0 .0) (pre· .1 .0) (members-of· .ensures) (states-after· .ensures)) (omega arith)))
+    (pre· .0, (pre· .1 .0, good-valid (args· .start .net) (stepsOf (args· .plan)) (lowest-dark· .result) (pre· .0 .formed) (pre· .1 .1) (lowest-dark· .ensures ∙ finished-dark (args· .start .net) (args· .plan) _ _ (pre· .0 .formed) (pre· .1 .0) (closed-of (args· .start) _ (pre· .0 .made)) (states-after· .ensures)) (omega (arith, (c .if1)))))
 
 returns-2 : tie.Need-returns-2
 unfolding netOf gridOf
 returns-2 c =
-    let args· = c .before .before .before .before .before .before .before .before .before .args in
+    let args· = c .before .before .before .before .before .before .before .args in
     let lowest-dark· = c .before .before .before .lowest-dark in
-    let pre· = c .before .before .before .before .before .before .before .before .before .pre in
-    let members-of· = c .before .before .before .before .before .before .members-of in
+    let pre· = c .before .before .before .before .before .before .before .pre in
     let states-after· = c .before .before .before .before .before .states-after in
-    scored-at (netOf (args· .net)) _ _ (lowest-dark· .result) (lowest-dark· .ensures ∙ finished-dark (args· .net) (args· .plan) _ _ (pre· .0 .0) (pre· .1 .0) (members-of· .ensures) (states-after· .ensures)) (omega arith) _ (c .score .ensures)
+    scored-at (netOf (args· .start .net)) _ _ (lowest-dark· .result) (lowest-dark· .ensures ∙ finished-dark (args· .start .net) (args· .plan) _ _ (pre· .0 .formed) (pre· .1 .0) (closed-of (args· .start) _ (pre· .0 .made)) (states-after· .ensures)) (omega (arith, (c .before .if1))) _ (c .score .ensures)
 
 pub finished-spec : {M : Type 1} → statement M
 finished-spec =
     tie.close
     (tie.spec
-    slice-aggregate-members-of
-    members-of-requires
     states-after-requires
     slice-aggregate-lowest-dark
     lowest-dark-requires

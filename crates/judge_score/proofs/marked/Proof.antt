@@ -1,21 +1,15 @@
 -- `judge_score::marked` meets its contract: the first bad step decides, and where there is none the steps are good.
 -- Assumes nothing.
+use Rattle.feeding_start.proofs.Starts.{operable-of, begun-searchable}
 use Rattle.judge_score.proofs.Ways.{broken-mark, good-mark, all-good}
 use borrow.Author.Needs.{needs}
 use Rattle.judge_score.proofs.marked.Statement.{statement}
 use Rattle.judge_score.proofs.marked.Tie as tie
 
-operable-switches-requires : tie.Need-operable-switches-requires
-operable-switches-requires c κs =
-    search needs
-
-slice-aggregate-examine : tie.Need-slice-aggregate-examine
-slice-aggregate-examine c =
-    search needs
-
 examine-requires : tie.Need-examine-requires
 examine-requires c κs =
-    search needs
+    let pre· = c .pre in
+    (begun-searchable (c .args .start) (pre· .0), pre· .1)
 
 enum-known-examined : tie.Need-enum-known-examined
 enum-known-examined c =
@@ -27,42 +21,26 @@ enum-told c =
 
 finished-requires : tie.Need-finished-requires
 finished-requires c κs =
-    let pre· = c .before .before .before .before .before .pre in
-    let args· = c .before .before .before .before .before .args in
-    let operable-switches· = c .before .before .before .before .operable-switches in
+    let pre· = c .before .before .before .pre in
+    let args· = c .before .before .before .args in
     let examine· = c .before .before .examine in
-    let good =
-    all-good (args· .net) (pre· .0 .0) (args· .plan) (pre· .1) (operable-switches· .result) (operable-switches· .ensures)
-    (examine· .result) (examine· .ensures) (c .enum-told .given .1) in
-    (pre· .0, (pre· .1, good))
+    (pre· .0, (pre· .1, all-good (args· .start .net) (pre· .0 .formed) (args· .plan) (pre· .1) (args· .start .operable) (operable-of (args· .start) _ (pre· .0 .made)) (examine· .result) (examine· .ensures) (c .enum-told .given .1)))
 
 returns : tie.Need-returns
 returns c =
-    let args· = c .before .before .before .before .before .before .args in
-    let pre· = c .before .before .before .before .before .before .pre in
-    let operable-switches· = c .before .before .before .before .before .operable-switches in
+    let args· = c .before .before .before .before .args in
+    let pre· = c .before .before .before .before .pre in
     let examine· = c .before .before .before .examine in
-    broken-mark (args· .net) (pre· .0 .0) (args· .plan) (pre· .1) (operable-switches· .result) (operable-switches· .ensures)
-    (examine· .result) (examine· .ensures) _ (c .before .examined .given .1)
+    broken-mark (args· .start .net) (pre· .0 .formed) (args· .plan) (pre· .1) (args· .start .operable) (operable-of (args· .start) _ (pre· .0 .made)) (examine· .result) (examine· .ensures) _ (c .before .examined .given .1)
 
 returns-2 : tie.Need-returns-2
 returns-2 c =
-    let args· = c .before .before .before .before .before .before .args in
-    let pre· = c .before .before .before .before .before .before .pre in
-    let operable-switches· = c .before .before .before .before .before .operable-switches in
+    let args· = c .before .before .before .before .args in
+    let pre· = c .before .before .before .before .pre in
     let examine· = c .before .before .before .examine in
-    good-mark (args· .net) (pre· .0 .0) (args· .plan) (pre· .1) (operable-switches· .result) (operable-switches· .ensures)
-    (examine· .result) (examine· .ensures) (c .before .enum-told .given .1) _ (c .finished .ensures)
+    good-mark (args· .start .net) (pre· .0 .formed) (args· .plan) (pre· .1) (args· .start .operable) (operable-of (args· .start) _ (pre· .0 .made)) (examine· .result) (examine· .ensures) (c .before .enum-told .given .1) _ (c .finished .ensures)
 
 pub marked-spec : {M : Type 1} → statement M
 marked-spec =
     tie.close
-    (tie.spec
-    operable-switches-requires
-    slice-aggregate-examine
-    examine-requires
-    enum-known-examined
-    enum-told
-    finished-requires
-    returns
-    returns-2)
+    (tie.spec examine-requires enum-known-examined enum-told finished-requires returns returns-2)

@@ -9,11 +9,12 @@ use Rattle.judge_score.proofs.score.Tie as tie
 
 plan-cost-requires : tie.Need-plan-cost-requires
 plan-cost-requires c κs =
-    search needs
+    let pre· = c .pre in
+    (pre· .0 .formed, pre· .1 .0)
 
 cheapest-cost-requires : tie.Need-cheapest-cost-requires
 cheapest-cost-requires c κs =
-    search needs
+    c .before .pre .0
 
 enum-known-cheapest : tie.Need-enum-known-cheapest
 enum-known-cheapest c =
@@ -26,7 +27,7 @@ sub-excess c =
     let plan-cost· = c .before .before .before .before .plan-cost in
     let cheapest-cost· = c .before .before .before .cheapest-cost in
     let cheapest· = c .before .cheapest in
-    least-room (args· .net) (stepsOf (args· .plan)) (pre· .0 .0) (pre· .0 .1) (pre· .1 .1) _ (plan-cost· .ensures) (cheapest-cost· .result) (cheapest-cost· .ensures) (cheapest· .given .0 .0) (cheapest· .given .1)
+    least-room (args· .start .net) (stepsOf (args· .plan)) (pre· .0 .formed) (pre· .0 .starts) (pre· .1 .1) _ (plan-cost· .ensures) (cheapest-cost· .result) (cheapest-cost· .ensures) (cheapest· .given .0 .0) (cheapest· .given .1)
 
 enum-told : tie.Need-enum-told
 enum-told c =
@@ -43,14 +44,14 @@ returns c =
     let plan-cost· = c .before .before .before .before .plan-cost in
     let cheapest-cost· = c .before .before .before .cheapest-cost in
     let cheapest· = c .before .cheapest in
-    cost-scored (args· .net) (stepsOf (args· .plan)) (pre· .0 .0) (pre· .0 .1) (pre· .1 .1) _ (plan-cost· .ensures) (cheapest-cost· .result) (cheapest-cost· .ensures) (cheapest· .given .0 .0) (cheapest· .given .1) _ _ (omega arith) (omega arith)
+    cost-scored (args· .start .net) (stepsOf (args· .plan)) (pre· .0 .formed) (pre· .0 .starts) (pre· .1 .1) _ (plan-cost· .ensures) (cheapest-cost· .result) (cheapest-cost· .ensures) (cheapest· .given .0 .0) (cheapest· .given .1) _ _ (omega arith) (omega arith)
 
 returns-2 : tie.Need-returns-2
 returns-2 c =
     let args· = c .before .before .before .before .args in
     let pre· = c .before .before .before .before .pre in
     let cheapest-cost· = c .before .before .cheapest-cost in
-    none-scored (args· .net) (stepsOf (args· .plan)) (pre· .0 .0) (pre· .0 .1) (pre· .1 .1) _ (c .before .before .before .plan-cost .ensures) (cheapest-cost· .result) (cheapest-cost· .ensures) (c .enum-told .given .1) _
+    none-scored (args· .start .net) (stepsOf (args· .plan)) (pre· .0 .formed) (pre· .0 .starts) (pre· .1 .1) _ (c .before .before .before .plan-cost .ensures) (cheapest-cost· .result) (cheapest-cost· .ensures) (c .enum-told .given .1) _
 
 returns-3 : tie.Need-returns-3
 returns-3 c =
@@ -58,7 +59,7 @@ returns-3 c =
     let pre· = c .before .before .before .before .before .pre in
     let plan-cost· = c .before .before .before .before .plan-cost in
     let cheapest-cost· = c .before .before .before .cheapest-cost in
-    refused-scored (args· .net) (stepsOf (args· .plan)) (pre· .0 .0) (pre· .0 .1) (pre· .1 .1) _ (plan-cost· .ensures) (cheapest-cost· .result) (cheapest-cost· .ensures) _ (c .before .cheapest2 .given .1) _
+    refused-scored (args· .start .net) (stepsOf (args· .plan)) (pre· .0 .formed) (pre· .0 .starts) (pre· .1 .1) _ (plan-cost· .ensures) (cheapest-cost· .result) (cheapest-cost· .ensures) _ (c .before .cheapest2 .given .1) _
 
 pub score-spec : {M : Type 1} → statement M
 score-spec =

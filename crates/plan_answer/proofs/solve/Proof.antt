@@ -1,46 +1,23 @@
--- The cheapest set gives the outcome: the plan of that set, or none.
+-- What is found for an accepted network gives its outcome.
 -- Assumes nothing.
-use mathlib.Core.Path.{sym, _∙_}
-use native.Mathlib.Omega.{arith}
-use Rattle.plan_answer.proofs.Solving.{solved-cost, solved-plan, solved-none}
-use borrow.Author.Needs.{needs}
+use mathlib.Core.Path.{_∙_}
+use Rattle.feeding_start.proofs.Starts.{begun-searchable}
+use Rattle.plan_answer.proofs.Solving.{solved}
 use Rattle.plan_answer.proofs.solve.Statement.{statement}
 use Rattle.plan_answer.proofs.solve.Tie as tie
 
-cheapest-set-requires : tie.Need-cheapest-set-requires
-cheapest-set-requires c κs =
-    search needs
+cheapest-plan-requires : tie.Need-cheapest-plan-requires
+cheapest-plan-requires c κs =
+    begun-searchable (c .args .start) (c .pre)
 
-with-plan-requires : tie.Need-with-plan-requires
-with-plan-requires c κs =
-    let pre· = c .before .before .before .pre in
-    let cheapest-set· = c .before .before .cheapest-set in
-    (pre· .0, (pre· .1, sym (solved-cost (c .before .before .before .args .net) (pre· .0) (cheapest-set· .result) (cheapest-set· .ensures) (omega arith))))
+outcome-of-requires : tie.Need-outcome-of-requires
+outcome-of-requires c κs =
+    (c .before .pre)
 
 returns : tie.Need-returns
 returns c =
-    let args· = c .before .before .before .before .args in
-    let pre· = c .before .before .before .before .pre in
-    let cheapest-set· = c .before .before .before .cheapest-set in
-    c .with-plan .ensures ∙ sym (solved-plan (args· .net) (pre· .0) (cheapest-set· .result) (cheapest-set· .ensures) (omega arith))
-
-without-plan-requires : tie.Need-without-plan-requires
-without-plan-requires c κs =
-    search needs
-
-returns-2 : tie.Need-returns-2
-returns-2 c =
-    let args· = c .before .before .before .before .args in
-    let pre· = c .before .before .before .before .pre in
-    let cheapest-set· = c .before .before .before .cheapest-set in
-    c .without-plan .ensures ∙ sym (solved-none (args· .net) (pre· .0) (cheapest-set· .result) (cheapest-set· .ensures) (omega arith))
+    let cheapest-plan· = c .before .cheapest-plan in
+    c .outcome-of .ensures ∙ solved (c .before .before .args .start) (c .before .before .pre) (cheapest-plan· .result) (cheapest-plan· .ensures)
 
 pub solve-spec : {M : Type 1} → statement M
-solve-spec =
-    tie.close
-    (tie.spec
-    cheapest-set-requires
-    with-plan-requires
-    returns
-    without-plan-requires
-    returns-2)
+solve-spec = tie.close (tie.spec cheapest-plan-requires outcome-of-requires returns)

@@ -1,7 +1,7 @@
 -- The bytes are read and judged, and an accepted network has its cheapest cost.
 -- Assumes nothing.
 use native.Mathlib.Omega.{arith}
-use Rattle.feeding_acceptance.proofs.Promises.{read-admission, read-starts}
+use Rattle.feeding_acceptance.proofs.Promises.{read-begun}
 use Rattle.plan_least_cost.proofs.Costing.{cheapest-bytes, cheapest-refused}
 use borrow.Author.Needs.{needs}
 use Rattle.plan_least_cost.proofs.cheapest_in.Statement.{statement}
@@ -18,9 +18,8 @@ enum-told c =
 cheapest-cost-requires : tie.Need-cheapest-cost-requires
 cheapest-cost-requires c κs =
     let args· = c .before .before .before .before .args in
-    let shared-slice-known· = c .before .before .before .shared-slice-known in
     let read-accepted· = c .before .before .read-accepted in
-    read-starts (args· .s .now) (λ i. omega (arith, shared-slice-known· .given i)) (read-accepted· .result) (read-accepted· .ensures .0) (c .enum-told .given .1)
+    read-begun (args· .s .now) (λ i. omega (arith, c .before .before .before .shared-slice-known .given i)) (read-accepted· .result) (read-accepted· .ensures .0) (c .enum-told .given .1)
 
 enum-known-verdict : tie.Need-enum-known-verdict
 enum-known-verdict c =
@@ -29,7 +28,6 @@ enum-known-verdict c =
 returns : tie.Need-returns
 returns c =
     let args· = c .before .before .before .before .before .args in
-    let shared-slice-known· = c .before .before .before .before .shared-slice-known in
     let read-accepted· = c .before .before .before .read-accepted in
     let cheapest-cost· = c .cheapest-cost in
     cheapest-bytes (args· .s .now) (read-accepted· .result) (read-accepted· .ensures .1) (c .before .enum-told .given .1) (cheapest-cost· .result) (cheapest-cost· .ensures)
@@ -37,7 +35,6 @@ returns c =
 returns-2 : tie.Need-returns-2
 returns-2 c =
     let args· = c .before .before .before .before .before .args in
-    let shared-slice-known· = c .before .before .before .before .shared-slice-known in
     let read-accepted· = c .before .before .before .read-accepted in
     cheapest-refused (args· .s .now) (read-accepted· .result) (read-accepted· .ensures .1) _ (c .before .verdict .given .1)
 

@@ -1,0 +1,2 @@
+pub mod Operable
+pub mod Starts
