@@ -23,8 +23,8 @@ static const uint16_t network_b[] = {
 int main(void) {
     uint8_t input[sizeof network_b + TAMCHUWE_PLAN_FILE_LENGTH];
     uint8_t text[TAMCHUWE_PLAN_TEXT_LENGTH];
-    uint64_t values[5], mark[2];
-    size_t n = 0;
+    uint64_t values[TAMCHUWE_PLAN_VALUES], mark[TAMCHUWE_MARK_VALUES];
+    size_t n = 0, count;
     for (size_t i = 0; i < sizeof network_b / sizeof network_b[0]; i++) {
         input[n++] = network_b[i] & 255;
         input[n++] = network_b[i] >> 8;
@@ -33,9 +33,13 @@ int main(void) {
     fwrite(text, 1, tamchuwe_plan_text(input, n, text, sizeof text), stdout);
 
     /* the plan file goes directly behind the network file, where the judge wants it */
-    if (tamchuwe_plan(input, n, input + n, sizeof input - n, values) != TAMCHUWE_PLAN)
+    if (tamchuwe_plan(input, n, input + n, sizeof input - n, values, TAMCHUWE_PLAN_VALUES, &count) != TAMCHUWE_PLAN)
         return 1;
-    if (tamchuwe_mark(input, n + 10 + 8 * values[0], mark) != TAMCHUWE_VALID)
+    if (count < TAMCHUWE_PLAN_VALUES) /* the library is older than the header */
+        return 1;
+    if (tamchuwe_mark(input, n + 10 + 8 * values[0], mark, TAMCHUWE_MARK_VALUES, &count) != TAMCHUWE_VALID)
+        return 1;
+    if (count < TAMCHUWE_MARK_VALUES)
         return 1;
     printf("%llu steps, cost %llu; the judge: cost %llu, excess %llu\n", (unsigned long long)values[0],
            (unsigned long long)values[1], (unsigned long long)mark[0], (unsigned long long)mark[1]);

@@ -5,10 +5,10 @@
  *
  * What each function answers and writes is proved for every input; the contracts stand in crates/tamchuwe/src/lib.rt.
  * Not proved, because C is outside the proofs: that the caller keeps what is asked here. Each pointer leads to as
- * many bytes (or numbers) as the length beside it, or the array's size, says; it may be null where its length is 0;
- * numbers are aligned; and what is written overlaps no other argument. The library keeps nothing between calls,
- * allocates nothing and writes only where it is said, so that threads may call it side by side. Of C's library it
- * needs memcpy and memset. 64 KiB of stack suffice (measured, not proved).
+ * many bytes (or numbers) as the length or room beside it says, `count` to one size_t; a pointer may be null where
+ * its length or room is 0; numbers are aligned; and what is written overlaps no other argument. The library keeps
+ * nothing between calls, allocates nothing and writes only where it is said, so that threads may call it side by
+ * side. Of C's library it needs memcpy and memset. 64 KiB of stack suffice (measured, not proved).
  *
  * INPUT is any bytes at all. The planner expects a network file, the judge a network file with a plan file directly
  * behind it. All numbers in files are unsigned, two bytes, low byte first. A record is its length in bytes (the
@@ -60,6 +60,12 @@
  * a rule is broken: REFUSED number place. Numbers are in base ten, one blank stands between fields, and each line
  * ends with one line feed. What the numbers mean is said below, at the functions that answer them.
  *
+ * VALUES. tamchuwe_plan and tamchuwe_mark answer a kind; the numbers that go with it are values, each at its index in
+ * the function's table below. The front of `values`, which has room for `values_room` numbers, is filled with as many
+ * values as fit, and later entries keep what they hold; `count` gets how many values there are, whether they fit or
+ * not. A later version may add values behind these, and counts them; no value ever changes its index or meaning. So a
+ * caller lends room for the values that it knows, and sees by `count` that the library has them.
+ *
  * THE PRINTED PLAN operates each of its switches once: first the openings, then the closings, each by rising link
  * number. Of several cheapest plans of that form the one is printed whose set of switches comes first: at the lowest
  * link that only one of two sets has, the set that has it comes first. */
@@ -86,18 +92,23 @@ enum { TAMCHUWE_BROKEN = 1, TAMCHUWE_SHORT = 2, TAMCHUWE_VALID = 3 };
  * number has more than 20 digits. */
 enum { TAMCHUWE_PLAN_FILE_LENGTH = 106, TAMCHUWE_PLAN_TEXT_LENGTH = 512, TAMCHUWE_MARK_TEXT_LENGTH = 64 };
 
+/* How many values this version has: what `count` gets, of whatever kind the answer is. */
+enum { TAMCHUWE_PLAN_VALUES = 5, TAMCHUWE_MARK_VALUES = 2 };
+
 /* Plans the network file `network` of `length` bytes.
  *
- * Answers the kind of reply and fills `values`:
- *     TAMCHUWE_PLAN       steps, cost, fed, dark, lost
- *     TAMCHUWE_NONE       0, 0, fed, dark, lost
- *     TAMCHUWE_REFUSED    number, place, 0, 0, 0
+ * Answers the kind of reply; its values, by index:
+ *                             0         1         2         3         4
+ *     TAMCHUWE_PLAN           steps     cost      fed       dark      lost
+ *     TAMCHUWE_NONE           0         0         fed       dark      lost
+ *     TAMCHUWE_REFUSED        number    place     0         0         0
  * `fed` sums the own loads of the elements that are live after the plan (at the start for NONE), `dark` the own loads
  * of restorable elements that are not, `lost` those of elements that can't be restored. With TAMCHUWE_PLAN the plan
  * file, 10 + 8 * steps bytes, fills the front of `buffer`, and later bytes keep their values. Where `buffer`, of
  * `room` bytes, is shorter than that file, the answer is TAMCHUWE_REFUSED with number 19 and the length needed. With
  * every answer but TAMCHUWE_PLAN `buffer` keeps all its bytes. */
-uint64_t tamchuwe_plan(const uint8_t *network, size_t length, uint8_t *buffer, size_t room, uint64_t values[5]);
+uint64_t tamchuwe_plan(const uint8_t *network, size_t length, uint8_t *buffer, size_t room, uint64_t *values,
+                       size_t values_room, size_t *count);
 
 /* The lines that the program `plan` prints for the network file `network` of `length` bytes: PLAN, OPEN, CLOSE and
  * LOAD; or NONE and LOAD; or REFUSED.
@@ -109,13 +120,16 @@ size_t tamchuwe_plan_text(const uint8_t *network, size_t length, uint8_t *out, s
 
 /* Marks the plan file that stands directly behind the network file in `input` of `length` bytes.
  *
- * Answers the kind of mark and fills `values`:
- *     TAMCHUWE_VALID      cost, excess over the cheapest valid plan
- *     TAMCHUWE_SHORT      no step is bad: the lowest restorable element still dark, 0
- *     TAMCHUWE_BROKEN     the first bad step, the lowest reason that fits (1 not an operable switch, 2 already so, 3
- *                         unsafe afterwards)
- *     TAMCHUWE_REFUSED    number, place */
-uint64_t tamchuwe_mark(const uint8_t *input, size_t length, uint64_t values[2]);
+ * Answers the kind of mark; its values, by index:
+ *                             0         1
+ *     TAMCHUWE_VALID          cost      excess
+ *     TAMCHUWE_SHORT          element   0
+ *     TAMCHUWE_BROKEN         step      reason
+ *     TAMCHUWE_REFUSED        number    place
+ * `excess` is the cost above that of the cheapest valid plan, `element` the lowest restorable one that is still dark
+ * after steps of which none is bad, `step` the first bad step, `reason` the lowest that fits it: 1 not an operable
+ * switch, 2 already so, 3 unsafe afterwards. */
+uint64_t tamchuwe_mark(const uint8_t *input, size_t length, uint64_t *values, size_t values_room, size_t *count);
 
 /* The line that the program `mark` prints for the same input: VALID, SHORT, BROKEN or REFUSED. Answer and `out` as
  * for tamchuwe_plan_text. */

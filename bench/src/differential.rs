@@ -14,6 +14,9 @@ const PATTERN: u8 = b'~';
 /// By how much a long buffer exceeds what goes into it: enough for any lines.
 const MORE: usize = 200;
 
+/// What values hold before a call: a number that no reply has, so that one left unwritten shows.
+const UNWRITTEN: u64 = u64::MAX;
+
 /// Of so many inputs, every kind of reply and mark must occur.
 const ENOUGH: usize = 20_000;
 
@@ -71,10 +74,16 @@ fn compare(input: &[u8], room: usize, counts: &mut Counts) -> Result<(), Differe
     same_text("the judge's line", input, library::mark_text, &mark_text)?;
     let reply = independent::plan(input);
     let needed = file_length(&reply);
-    for room in [needed + MORE, needed, needed.saturating_sub(1), room] {
-        same_reply(input, &reply, room)?;
+    for (room, places) in [(needed + MORE, 8), (needed, 5), (needed.saturating_sub(1), 4), (room, room % 8)] {
+        same_reply(input, &reply, room, places)?;
     }
-    same("the mark", library::mark(input), mark_values(independent::mark(input)))?;
+    let (kind, values) = mark_values(independent::mark(input));
+    for places in [3, 2, room % 2] {
+        let mut lent = vec![UNWRITTEN; places];
+        let (proved, count) = library::mark(input, &mut lent);
+        let what = format!("the mark, its count and its values in {places} places");
+        same(&what, (proved, count, lent), (kind, values.len(), in_places(&values, places)))?;
+    }
     counts.add_reply(&plan_text);
     counts.add_mark(&mark_text);
     Ok(())
@@ -111,13 +120,24 @@ fn same_text(what: &str, input: &[u8], write: fn(&[u8], &mut [u8]) -> usize, tex
     Ok(())
 }
 
-/// The planner's values and its plan file in a buffer of that size: rule 19 where it doesn't fit.
-fn same_reply(input: &[u8], reply: &Reply, room: usize) -> Result<(), Difference> {
+/// The planner's values in so many places, their count, and its plan file in a buffer of that size: rule 19 where it
+/// doesn't fit.
+fn same_reply(input: &[u8], reply: &Reply, room: usize, places: usize) -> Result<(), Difference> {
     let (mut buffer, mut wanted) = (vec![PATTERN; room], vec![PATTERN; room]);
-    let values = library::plan(input, &mut buffer);
-    let wanted_values = put_reply(reply, &mut wanted);
-    same(&format!("the planner's values with {room} bytes"), values, wanted_values)?;
+    let mut lent = vec![UNWRITTEN; places];
+    let (proved, count) = library::plan(input, &mut buffer, &mut lent);
+    let (kind, values) = put_reply(reply, &mut wanted);
+    let what = format!("the planner's kind, its count and its values in {places} places with {room} bytes");
+    same(&what, (proved, count, lent), (kind, values.len(), in_places(&values, places)))?;
     same(&format!("the planner's buffer of {room} bytes"), buffer, wanted)
+}
+
+/// The values, as many as there are places for; a place behind them keeps what it held.
+fn in_places(values: &[u64], places: usize) -> Vec<u64> {
+    let mut lent = vec![UNWRITTEN; places];
+    let fit = places.min(values.len());
+    lent[..fit].copy_from_slice(&values[..fit]);
+    lent
 }
 
 fn put_reply(reply: &Reply, buffer: &mut [u8]) -> (u64, [u64; 5]) {

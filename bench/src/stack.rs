@@ -52,11 +52,11 @@ fn on_thread(stack: usize, pairs: [Pair; 2], measure: Measure) -> Result<usize, 
 
 fn most_used(pair: &Pair, measure: Measure) -> usize {
     let (network, both, mut out) = (&pair[0], pair.concat(), vec![0; 4096]);
-    let (mut reply, mut mark, mut lengths) = (0, 0, [0; 2]);
+    let (mut reply, mut mark, mut values, mut lengths) = (0, 0, [0; 5], [0; 2]);
     let used = [
-        measure(&mut || reply = library::plan(network, &mut out).0),
+        measure(&mut || reply = library::plan(network, &mut out, &mut values).0),
         measure(&mut || lengths[0] = library::plan_text(network, &mut out)),
-        measure(&mut || mark = library::mark(&both).0),
+        measure(&mut || mark = library::mark(&both, &mut values).0),
         measure(&mut || lengths[1] = library::mark_text(&both, &mut out)),
     ];
     assert!(reply == 1 && mark == 3 && lengths.iter().all(|&length| length > 0), "a plan, and a valid one");

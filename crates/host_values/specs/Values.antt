@@ -1,7 +1,8 @@
--- The planner's reply and the judge's mark as numbers, for programs in other languages.
+-- The planner's reply and the judge's mark as numbers, for programs in other languages, and such numbers in what a host lends.
 -- Assumes nothing.
-use mathlib.Core.List.{List, [], _∷_}
+use mathlib.Core.List.{List, [], _∷_, _++_}
 use Prim.Native.Nat.{ℕ}
+use lib.ListN.{length, take, drop}
 use Rattle.network.specs.Refusals.{ruleNumber}
 use Rattle.plan_outcome.specs.declared.Reply.{Reply}
 use Rattle.plan_outcome.specs.declared.Reply.the-variants as Reply·
@@ -34,3 +35,7 @@ markValues (Refused f) = ruleNumber (f .rule) ∷ f .place ∷ []
 markValues (Broken b) = b .step ∷ reasonNumber (b .reason) ∷ []
 markValues (Short e) = e ∷ 0 ∷ []
 markValues (Valid v) = v .cost ∷ v .excess ∷ []
+
+-- values in front of what a host lends, as many as there is room for; later entries keep their values
+unfoldable pub valuesIn : List ℕ → List ℕ → List ℕ
+valuesIn values lent = take (length lent) values ++ drop (length values) lent

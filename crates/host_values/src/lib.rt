@@ -4,7 +4,8 @@ use judge_marks::Mark;
 use network::refusal::number;
 use plan_outcome::Reply;
 ghost use mathlib.Core.Path.{_≡_};
-ghost use Rattle.host_values.specs.Values.{replyKind, replyValues, markKind, markValues};
+ghost use lib.ListN.{length};
+ghost use Rattle.host_values.specs.Values.{replyKind, replyValues, markKind, markValues, valuesIn};
 
 pub fn reply_kind(reply: Reply) -> u64
     ensures { λ r. ⌜ r ≡ replyKind reply ⌝ }
@@ -61,4 +62,17 @@ pub fn mark_values(mark: Mark) -> [u64; 2]
         Mark::Short(element) => [element as u64, 0],
         Mark::Valid(score) => [score.cost, score.excess],
     }
+}
+
+// As many of the values as there is room for into the front of `lent`; how many there are in any case.
+pub fn put_what_fits(values: &[u64], lent: &mut [u64]) -> usize
+    ensures { λ r. ⌜ r ≡ length (now (values .entry)) ⌝ }
+    ensures { λ _. ⌜ now (lent .exit) ≡ valuesIn (now (values .entry)) (now (lent .entry)) ⌝ }
+{
+    let mut i: usize = 0;
+    while i < values.len() && i < lent.len() {
+        lent[i] = values[i];
+        i += 1;
+    }
+    values.len()
 }

@@ -1,8 +1,8 @@
 -- Pieces that are put one behind the other are the planner's lines, and its lines stand in front of the buffer. By the laws of `texts`.
 -- Assumes nothing.
-use mathlib.Core.Path.{_≡_, refl}
+use mathlib.Core.Path.{_≡_, refl, _∙_}
 use mathlib.Core.Bool.{Bool, true, false}
-use mathlib.Core.List.{List, [], _++_}
+use mathlib.Core.List.{List, [], _∷_, _++_}
 use Prim.Native.Nat.{ℕ, _+_, _^_, _<_, _≤_}
 use native.Mathlib.Numerals.{add-one}
 use native.Mathlib.Omega.{arith}
@@ -13,7 +13,8 @@ use Rattle.plan_sums.specs.declared.Sums.{Sums}
 use Rattle.texts.specs.Texts.{feed, inFront}
 use Rattle.texts.proofs.Pieces.{Put, put-behind, field-16, field-64, put-front}
 use Rattle.plan_lines.specs.Lines.{noneWord, stepWord}
-use Rattle.plan_lines.specs.Lines.{stepLine, stepLines, planLine, loadLine, planLines, noneLines}
+use Rattle.plan_lines.specs.Lines.{stepLine, stepLines, planLine, loadLine}
+use Rattle.plan_lines.specs.Lines.{textOf, replyText, tailLines, tailRoom, planLines, noneLines}
 
 -- ---- a step's line
 
@@ -60,33 +61,68 @@ pub load-length : (s : Sums) → s .fed < 2 ^ 64 → s .dark < 2 ^ 64 → s .los
 unfolding loadLine
 load-length s f d l = simp length-append (omega (arith, field-64 (s .fed) f, field-64 (s .dark) d, field-64 (s .lost) l))
 
+-- ---- the tail
+
+-- one line more, behind which others may follow
+pub tail-more :
+    (l l′ l″ : List ℕ) (at j k : ℕ) (line : List ℕ) (lines : List (List ℕ)) →
+    Put l at l′ j line →
+    Put l′ j l″ k (textOf lines) →
+    Put l at l″ k (textOf (line ∷ lines))
+unfolding textOf
+tail-more l l′ l″ at j k line lines first rest = put-behind l l′ l″ at j k line (textOf lines) first rest
+
+pub tail-none : (l : List ℕ) (at : ℕ) → Put l at l at (textOf [])
+unfolding textOf
+tail-none l at = (omega arith, refl)
+
+pub tail-put : (l l′ : List ℕ) (at j : ℕ) (s : Sums) → Put l at l′ j (loadLine s) → Put l at l′ j (textOf (tailLines s))
+unfolding tailLines
+tail-put l l′ at j s load = tail-more l l′ l′ at j j (loadLine s) [] load (tail-none l′ j)
+
+pub tail-length : (s : Sums) → s .fed < 2 ^ 64 → s .dark < 2 ^ 64 → s .lost < 2 ^ 64 → length (textOf (tailLines s)) ≤ tailRoom
+unfolding tailLines textOf
+tail-length s f d l = omega (arith, length-append (loadLine s) [], load-length s f d l)
+
 -- ---- the lines in front of the buffer
 
-pub plan-lines-put :
-    (l l₁ l₂ l₃ : List ℕ) (i j k : ℕ) (p : Plan) (cost : ℕ) (s : Sums) →
+pub reply-put :
+    (l l₁ l₂ l₃ : List ℕ) (i j k : ℕ) (head steps : List ℕ) (tail : List (List ℕ)) →
     k ≤ length l →
-    Put l 0 l₁ i (planLine (p .steps) cost) →
+    Put l 0 l₁ i head →
+    Put l₁ i l₂ j steps →
+    Put l₂ j l₃ k (textOf tail) →
+    (k ≡ length (replyText head steps tail)) × (l₃ ≡ inFront (replyText head steps tail) l)
+unfolding replyText
+reply-put l l₁ l₂ l₃ i j k head steps tail h one two three =
+    let both = put-behind l l₁ l₂ 0 i j head steps one two in
+    put-front l l₃ k (head ++ steps ++ textOf tail) h (put-behind l l₂ l₃ 0 j k (head ++ steps) (textOf tail) both three)
+
+pub plan-lines-put :
+    (l l₁ l₂ l₃ : List ℕ) (i j k x y : ℕ) (p : Plan) (cost : ℕ) (s : Sums) →
+    k ≤ length l →
+    Put l 0 l₁ i (planLine x y) →
     Put l₁ i l₂ j (stepLines p (p .steps)) →
-    Put l₂ j l₃ k (loadLine s) →
+    Put l₂ j l₃ k (textOf (tailLines s)) →
+    x ≡ p .steps →
+    y ≡ cost →
     (k ≡ length (planLines p cost s)) × (l₃ ≡ inFront (planLines p cost s) l)
 unfolding planLines
-plan-lines-put l l₁ l₂ l₃ i j k p cost s h head steps load =
-    let two = put-behind l l₁ l₂ 0 i j (planLine (p .steps) cost) (stepLines p (p .steps)) head steps in
-    let three = put-behind l l₂ l₃ 0 j k (planLine (p .steps) cost ++ stepLines p (p .steps)) (loadLine s) two load in
-    put-front l l₃ k (planLine (p .steps) cost ++ stepLines p (p .steps) ++ loadLine s) h three
+plan-lines-put l l₁ l₂ l₃ i j k x y p cost s h head steps tail e e′ =
+    reply-put l l₁ l₂ l₃ i j k (planLine (p .steps) cost) (stepLines p (p .steps)) (tailLines s) h (rw (e, e′) at head) steps tail
 
 pub none-lines-put :
-    (l l₁ l₂ l₃ : List ℕ) (i j j′ k : ℕ) (s : Sums) →
+    (l l₁ l₂ l₃ : List ℕ) (i j j′ k r : ℕ) (s : Sums) →
     k ≤ length l →
     Put l 0 l₁ i noneWord →
     Put l₁ i l₂ j feed →
-    Put l₂ j′ l₃ k (loadLine s) →
+    Put l₂ j′ l₃ k (textOf (tailLines s)) →
     j′ ≡ 5 →
-    (k ≡ length (noneLines s)) × (l₃ ≡ inFront (noneLines s) l)
+    r ≡ k →
+    (r ≡ length (noneLines s)) × (l₃ ≡ inFront (noneLines s) l)
 unfolding noneLines
-none-lines-put l l₁ l₂ l₃ i j j′ k s h word end behind e =
-    let two = put-behind l l₁ l₂ 0 i j noneWord feed word end in
+none-lines-put l l₁ l₂ l₃ i j j′ k r s h word end tail e all =
     let place : j′ ≡ j = omega (arith, e, word .0, end .0) in
-    let load = rw place at behind in
-    let three = put-behind l l₂ l₃ 0 j k (noneWord ++ feed) (loadLine s) two load in
-    put-front l l₃ k (noneWord ++ feed ++ loadLine s) h three
+    let head = put-behind l l₁ l₂ 0 i j noneWord feed word end in
+    let put = reply-put l l₂ l₂ l₃ j j k (noneWord ++ feed) [] (tailLines s) h head (omega arith, refl) (rw place at tail) in
+    (all ∙ put .0, put .1)

@@ -1,7 +1,7 @@
 -- Document 01, "Printed lines" of the planner; the line of a refusal is in `texts`.
 -- Assumes nothing.
 use mathlib.Core.Bool.{Bool, true, false}
-use mathlib.Core.List.{List, [], _∷_, _++_}
+use mathlib.Core.List.{List, [], _∷_, _++_, foldr}
 use Prim.Native.Nat.{ℕ, zero, suc}
 use lib.ListN.{getD}
 use Rattle.texts.specs.Texts.{field, feed, lineOf}
@@ -39,9 +39,27 @@ stepLines p (suc n) = stepLines p n ++ stepLine (getD (p .link) n 0) (getD (p .c
 unfoldable pub loadLine : Sums → List ℕ
 loadLine s = loadWord ++ field (s .fed) ++ field (s .dark) ++ field (s .lost) ++ feed
 
+-- ---- the lines of a reply
+
+-- lines one behind the other
+unfoldable pub textOf : List (List ℕ) → List ℕ
+textOf lines = foldr _++_ [] lines
+
+-- a reply with its lines: its head line, those of its steps, and its tail
+unfoldable pub replyText : List ℕ → List ℕ → List (List ℕ) → List ℕ
+replyText head steps tail = head ++ steps ++ textOf tail
+
+-- the tail, after PLAN and its steps and after NONE: "then LOAD fed dark lost"
+unfoldable pub tailLines : Sums → List (List ℕ)
+tailLines s = loadLine s ∷ []
+
+-- bytes that suffice for the tail
+abbrev pub tailRoom : ℕ
+tailRoom = 68
+
 unfoldable pub planLines : Plan → ℕ → Sums → List ℕ
-planLines p cost s = planLine (p .steps) cost ++ stepLines p (p .steps) ++ loadLine s
+planLines p cost s = replyText (planLine (p .steps) cost) (stepLines p (p .steps)) (tailLines s)
 
 -- "a line that is the four bytes NONE, then LOAD"
 unfoldable pub noneLines : Sums → List ℕ
-noneLines s = noneWord ++ feed ++ loadLine s
+noneLines s = replyText (noneWord ++ feed) [] (tailLines s)

@@ -10,7 +10,8 @@ ghost use Prim.Native.Nat.{_+_, _*_, _≤_};
 ghost use lib.ListN.{length};
 ghost use lib.Seq.{sets};
 ghost use Rattle.texts.specs.Texts.{inFront};
-ghost use Rattle.plan_lines.specs.Lines.{stepWord, stepLine, stepLines, loadLine, planLines, noneLines};
+ghost use Rattle.plan_lines.specs.Lines.{stepWord, stepLine, stepLines, loadLine};
+ghost use Rattle.plan_lines.specs.Lines.{textOf, tailLines, tailRoom, planLines, noneLines};
 
 // The word of a step.
 fn put_word(out: &mut [u8], at: usize, close: bool) -> usize
@@ -68,6 +69,16 @@ fn put_load(out: &mut [u8], at: usize, sums: Sums) -> usize
     put_feed(out, third)
 }
 
+// The lines behind the steps: LOAD.
+fn put_tail(out: &mut [u8], at: usize, sums: Sums) -> usize
+    requires { ⌜ at + tailRoom ≤ length (now out) ⌝ }
+    ensures { λ r. ⌜ r ≤ at + tailRoom ⌝ }
+    ensures { λ r. ⌜ r ≡ at + length (textOf (tailLines sums)) ⌝ }
+    ensures { λ _. ⌜ now (out .exit) ≡ sets (now (out .entry)) at (textOf (tailLines sums)) ⌝ }
+{
+    put_load(out, at, sums)
+}
+
 // The lines for a plan with its cost; later bytes keep their values.
 pub fn plan_lines(plan: Plan, cost: u64, sums: Sums, out: &mut [u8; 4096]) -> usize
     ensures { λ r. ⌜ r ≡ length (planLines plan cost sums) ⌝ }
@@ -76,7 +87,7 @@ pub fn plan_lines(plan: Plan, cost: u64, sums: Sums, out: &mut [u8; 4096]) -> us
     let steps = plan.steps as u64;
     let first = put_line(out, 0, b"PLAN", steps, cost);
     let second = put_steps(out, first, plan);
-    put_load(out, second, sums)
+    put_tail(out, second, sums)
 }
 
 // The lines where there is no plan.
@@ -86,5 +97,5 @@ pub fn none_lines(sums: Sums, out: &mut [u8; 4096]) -> usize
 {
     let word = put_text(out, 0, b"NONE");
     let first = put_feed(out, word);
-    put_load(out, first, sums)
+    put_tail(out, first, sums)
 }

@@ -13,7 +13,7 @@ use Rattle.file_writer.proofs.Files.{head-length, step-length, end-length}
 use Rattle.plan_form.specs.Printing.{stepsTo, stepsOf}
 use Rattle.plan_form.proofs.Steps.{steps-length}
 use Rattle.plan_sums.specs.declared.Sums.{Sums}
-use Rattle.plan_lines.specs.Lines.{planLine, stepLine, stepLines, loadLine, planLines}
+use Rattle.plan_lines.specs.Lines.{planLine, stepLine, stepLines, replyText, tailLines, planLines}
 use Rattle.planner.specs.Replies.{stepTexts, planTextOf, stepFiles, planFileOf}
 
 texts-append : (q r : List Step) → stepTexts (q ++ r) ≡ stepTexts q ++ stepTexts r
@@ -31,7 +31,7 @@ lines-texts p (suc n) =
 pub plan-lines-text : (p : Plan) (c : ℕ) (l : Sums) → planLines p c l ≡ planTextOf (stepsOf p) c l
 unfolding planLines planTextOf stepsOf
 plan-lines-text p c l =
-    ap₂ (λ (k : ℕ) (t : List ℕ). planLine k c ++ t ++ loadLine l) (sym (steps-length p)) (lines-texts p (p .steps))
+    ap₂ (λ (k : ℕ) (t : List ℕ). replyText (planLine k c) t (tailLines l)) (sym (steps-length p)) (lines-texts p (p .steps))
 
 -- ---- and its file is the file of its steps
 

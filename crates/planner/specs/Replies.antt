@@ -18,7 +18,7 @@ use Rattle.file_writer.specs.declared.Written.{Written}
 use Rattle.file_writer.specs.declared.Written.the-variants as Written·
 use Rattle.file_writer.specs.Writing.{planHeadBytes, stepBytes, endBytes, written, bufferAfter}
 use Rattle.texts.specs.Texts.{refusedLine}
-use Rattle.plan_lines.specs.Lines.{planLine, stepLine, loadLine, planLines, noneLines}
+use Rattle.plan_lines.specs.Lines.{planLine, stepLine, replyText, tailLines, planLines, noneLines}
 use Rattle.plan_outcome.specs.declared.Planned.{Planned}
 use Rattle.plan_outcome.specs.declared.Reply.{Reply}
 use Rattle.plan_outcome.specs.declared.Reply.the-variants as Reply·
@@ -33,7 +33,7 @@ stepTexts (s ∷ q) = stepLine (s .link) (s .want) ++ stepTexts q
 
 -- "PLAN steps cost, then a line .. for each step, then LOAD fed dark lost"
 unfoldable pub planTextOf : List Step → ℕ → Sums → List ℕ
-planTextOf q cost l = planLine (length q) cost ++ stepTexts q ++ loadLine l
+planTextOf q cost l = replyText (planLine (length q) cost) (stepTexts q) (tailLines l)
 
 -- "A plan file is one plan head, its steps, one end."
 unfoldable pub stepFiles : List Step → List ℕ

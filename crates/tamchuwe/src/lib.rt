@@ -2,6 +2,7 @@
 use host_texts::put_if_it_fits;
 use host_values::mark_kind;
 use host_values::mark_values;
+use host_values::put_what_fits;
 use host_values::reply_kind;
 use host_values::reply_values;
 use judge::mark_of;
@@ -14,31 +15,41 @@ ghost use Rattle.plan_outcome.specs.Outcomes.{outcome};
 ghost use Rattle.planner.specs.Replies.{PlannerReply, LibraryReply, replyFor, bufferFor, linesOf};
 ghost use Rattle.judge.specs.Judging.{JudgeReply, markFor};
 ghost use Rattle.judge_line.specs.MarkLines.{markLine};
-ghost use Rattle.host_values.specs.Values.{replyKind, replyValues, markKind, markValues};
+ghost use Rattle.host_values.specs.Values.{replyKind, replyValues, markKind, markValues, valuesIn};
 ghost use Rattle.host_texts.specs.Fitting.{textIn};
 
-// The planner: the kind of its reply, and the values that go with it; where there is a plan, its file in the front of `buffer`.
+// The planner: the kind of its reply, in the front of `values` as many of the reply's values as fit, and in `count` how many
+// there are; where there is a plan, its file in the front of `buffer`.
 #[no_mangle]
-pub extern "C" fn tamchuwe_plan(network: &[u8], buffer: &mut [u8], values: &mut [u64; 5]) -> u64
+pub extern "C" fn tamchuwe_plan(
+    network: &[u8],
+    buffer: &mut [u8],
+    values: &mut [u64],
+    count: &mut usize,
+) -> u64
     ensures { λ r. ⌜ r ≡ replyKind (replyFor (outcome (now (network .entry))) (now (buffer .entry))) ⌝ }
     ensures { λ _. ⌜ now (buffer .exit) ≡ bufferFor (outcome (now (network .entry))) (now (buffer .entry)) ⌝ }
-    ensures { λ _. ⌜ now (values .exit) ≡ replyValues (replyFor (outcome (now (network .entry))) (now (buffer .entry))) ⌝ }
+    ensures { λ _. ⌜ now (values .exit) ≡ valuesIn (replyValues (replyFor (outcome (now (network .entry))) (now (buffer .entry)))) (now (values .entry)) ⌝ }
+    ensures { λ _. ⌜ now (count .exit) ≡ length (replyValues (replyFor (outcome (now (network .entry))) (now (buffer .entry)))) ⌝ }
     ensures { λ _. ⌜ LibraryReply (now (network .entry)) (now (buffer .entry)) (replyFor (outcome (now (network .entry))) (now (buffer .entry))) (now (buffer .exit)) ⌝ }
 {
     let reply = plan_into(network, buffer);
-    *values = reply_values(reply);
+    let found = reply_values(reply);
+    *count = put_what_fits(&found, values);
     reply_kind(reply)
 }
 
-// The judge: the kind of its mark, and the values that go with it.
+// The judge: the kind of its mark, with the mark's values and their count as above.
 #[no_mangle]
-pub extern "C" fn tamchuwe_mark(input: &[u8], values: &mut [u64; 2]) -> u64
+pub extern "C" fn tamchuwe_mark(input: &[u8], values: &mut [u64], count: &mut usize) -> u64
     ensures { λ r. ⌜ r ≡ markKind (markFor (now (input .entry))) ⌝ }
-    ensures { λ _. ⌜ now (values .exit) ≡ markValues (markFor (now (input .entry))) ⌝ }
+    ensures { λ _. ⌜ now (values .exit) ≡ valuesIn (markValues (markFor (now (input .entry)))) (now (values .entry)) ⌝ }
+    ensures { λ _. ⌜ now (count .exit) ≡ length (markValues (markFor (now (input .entry)))) ⌝ }
     ensures { λ _. ⌜ JudgeReply (now (input .entry)) (markLine (markFor (now (input .entry)))) ⌝ }
 {
     let mark = mark_of(input);
-    *values = mark_values(mark);
+    let found = mark_values(mark);
+    *count = put_what_fits(&found, values);
     mark_kind(mark)
 }
 

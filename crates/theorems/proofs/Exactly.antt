@@ -25,7 +25,7 @@ use Rattle.plan_problem.specs.Choosing.{NoPlan, NoneCheaper}
 use Rattle.plan_form.specs.Printing.{stepsOf}
 use Rattle.plan_sums.specs.declared.Sums.{Sums}
 use Rattle.texts.specs.Texts.{feed, lineOf, refusedWord, refusedLine}
-use Rattle.plan_lines.specs.Lines.{planWord, noneWord, loadLine, noneLines}
+use Rattle.plan_lines.specs.Lines.{planWord, noneWord, textOf, replyText, tailLines, noneLines}
 use Rattle.plan_outcome.specs.declared.Planned.{Planned}
 use Rattle.plan_outcome.specs.declared.Reply.{Reply}
 use Rattle.plan_outcome.specs.declared.Reply.the-variants as Reply·
@@ -73,10 +73,10 @@ module _ (s : List ℕ) (bytes : Bytes s) where
 
   -- "a line that is the four bytes NONE"
   pub none-printed : (n : Network) → AcceptedNetwork s n → Begins (noneWord ++ feed) (planText s) ↔ NoPlan (netOf n)
-  unfolding noneLines
+  unfolding noneLines replyText
   none-printed n a = (
     λ b. none-exactly s bytes n a .0 (none-by-word s (feed ++ b .0, b .1 ∙ append-assoc noneWord feed (b .0))),
-    λ no-plan. let r = none-exactly s bytes n a .1 no-plan in (loadLine (r .0), none-text-is s (r .0) (r .1)),
+    λ no-plan. let r = none-exactly s bytes n a .1 no-plan in (textOf (tailLines (r .0)), none-text-is s (r .0) (r .1)),
   )
 
   pub plan-printed : (n : Network) → AcceptedNetwork s n → Begins planWord (planText s) ↔ ((q : List Step) × ValidPlan (netOf n) q)

@@ -35,8 +35,8 @@ use Rattle.plan_problem.specs.Choosing.{Promised}
 use Rattle.plan_sums.specs.declared.Sums.{Sums}
 use Rattle.texts.specs.Texts.{field, feed, lineOf, refusedWord, refusedLine}
 use Rattle.texts.proofs.Pieces.{field-16, field-64}
-use Rattle.plan_lines.specs.Lines.{planWord, noneWord, planLine, stepLine, loadLine, noneLines}
-use Rattle.plan_lines.proofs.Lines.{step-length, load-length}
+use Rattle.plan_lines.specs.Lines.{planWord, noneWord, planLine, stepLine, textOf, replyText, tailLines, tailRoom, noneLines}
+use Rattle.plan_lines.proofs.Lines.{step-length, tail-length}
 use Rattle.judge_marks.specs.declared.Reason.{Reason}
 use Rattle.judge_marks.specs.declared.Reason.the-variants.{NotOperable, AlreadySo, Unsafe}
 use Rattle.judge_marks.specs.declared.Mark.{Mark}
@@ -195,9 +195,9 @@ unfolding refusedLine
 refused-length f h =
     omega (arith, line-length refusedWord (ruleNumber (f .rule)) (f .place), field-16 (ruleNumber (f .rule)) (omega (arith, numbers (f .rule))), field-16 (f .place) h)
 
-loads-length : (n : Network) → WellFormed n → (c : Config) (l : Sums) → LoadsIn (netOf n) c l → length (loadLine l) ≤ 68
+loads-length : (n : Network) → WellFormed n → (c : Config) (l : Sums) → LoadsIn (netOf n) c l → length (textOf (tailLines l)) ≤ tailRoom
 loads-length n w c l h =
-    load-length l (omega (arith, h .total, total-within n w)) (omega (arith, h .total, total-within n w)) (omega (arith, h .total, total-within n w))
+    tail-length l (omega (arith, h .total, total-within n w)) (omega (arith, h .total, total-within n w)) (omega (arith, h .total, total-within n w))
 
 steps-length : (n : Network) → WellFormed n → (c : Config) (q : List Step) → Good (netOf n) (Operable (netOf n)) c q → length (stepTexts q) ≤ 12 * length q
 unfolding Good stepTexts
@@ -214,13 +214,13 @@ steps-length n w c (s ∷ q) g =
 
 plan-length : (n : Network) → WellFormed n → Starts (netOf n) → (q : List Step) (cost : ℕ) (l : Sums) → Promised (netOf n) q cost
     → LoadsIn (netOf n) (run (netOf n .startClosed) q) l → length (planTextOf q cost l) ≤ 512
-unfolding planTextOf planLine
+unfolding planTextOf replyText planLine
 plan-length n w starts q cost l p h =
     let few = promised-few (netOf n) (formed-net n w) starts q cost p in
     let paid : cost ≤ 65535 * mostOperable = omega (arith, p .own, costs-within n w (netOf n .startClosed) q (p .valid .good), few) in
     omega (
       arith,
-      length-append (lineOf planWord (length q) cost ++ stepTexts q) (loadLine l),
+      length-append (lineOf planWord (length q) cost ++ stepTexts q) (textOf (tailLines l)),
       length-append (lineOf planWord (length q) cost) (stepTexts q),
       line-length planWord (length q) cost,
       field-16 (length q) (omega (arith, few)),
@@ -231,8 +231,8 @@ plan-length n w starts q cost l p h =
     )
 
 none-length : (n : Network) → WellFormed n → (l : Sums) → LoadsIn (netOf n) (netOf n .startClosed) l → length (noneLines l) ≤ 512
-unfolding noneLines
-none-length n w l h = omega (arith, length-append (noneWord ++ feed) (loadLine l), loads-length n w (netOf n .startClosed) l h)
+unfolding noneLines replyText
+none-length n w l h = omega (arith, length-append (noneWord ++ feed) (textOf (tailLines l)), loads-length n w (netOf n .startClosed) l h)
 
 module _ (s : List ℕ) (bytes : Bytes s) (short : length s ≤ 4096) where
   first-length : (f : Refusal) → FirstRule s f → length (refusedLine f) ≤ 20

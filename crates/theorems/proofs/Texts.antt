@@ -14,7 +14,7 @@ use Rattle.feeding.specs.Plans.{Step}
 use Rattle.plan_sums.specs.declared.Sums.{Sums}
 use Rattle.texts.specs.Texts.{decimal, field, feed, lineOf, refusedWord, refusedLine}
 use Rattle.texts.proofs.Digits.{decimal-digits, valueOf, decimal-value}
-use Rattle.plan_lines.specs.Lines.{planWord, noneWord, noneLines, loadWord, stepWord, planLine, stepLine, loadLine}
+use Rattle.plan_lines.specs.Lines.{planWord, noneWord, noneLines, loadWord, stepWord, planLine, stepLine, loadLine, textOf, replyText, tailLines}
 use Rattle.judge_marks.specs.declared.Reason.{Reason}
 use Rattle.judge_marks.specs.declared.Reason.the-variants.{NotOperable, AlreadySo, Unsafe}
 use Rattle.judge_marks.specs.declared.BadStep.{BadStep}
@@ -103,43 +103,67 @@ step-split l l′ false false x y e =
 step-split l l′ true false x y e = let head : _≡_ {A = ℕ} 67 79 = ap (λ (t : List ℕ). getD t 0 0) e in absurd (omega arith)
 step-split l l′ false true x y e = let head : _≡_ {A = ℕ} 79 67 = ap (λ (t : List ℕ). getD t 0 0) e in absurd (omega arith)
 
-load-same : (l m : Sums) → loadLine l ≡ loadLine m → l ≡ m
+-- the LOAD line, with whatever stands behind it
+load-split : (l m : Sums) (x y : List ℕ) → loadLine l ++ x ≡ loadLine m ++ y → (l ≡ m) × (x ≡ y)
 unfolding loadLine
-load-same l m e =
-    let flat : loadWord ++ (field (l .fed) ++ (field (l .dark) ++ (field (l .lost) ++ (10 ∷ []))))
-    ≡ loadWord ++ (field (m .fed) ++ (field (m .dark) ++ (field (m .lost) ++ (10 ∷ [])))) = simp append-assoc at e in
-    let a = next-split (l .fed) (m .fed) (l .dark) (m .dark) (field (l .lost) ++ (10 ∷ [])) (field (m .lost) ++ (10 ∷ [])) (cancel loadWord _ _ flat) in
-    let b = next-split (l .dark) (m .dark) (l .lost) (m .lost) (10 ∷ []) (10 ∷ []) (a .1) in
-    let c = last-split (l .lost) (m .lost) [] [] (b .1) in
-    λ i. record { fed = a .0 i; dark = b .0 i; lost = c .0 i }
+load-split l m x y e =
+    let flat : loadWord ++ (field (l .fed) ++ (field (l .dark) ++ (field (l .lost) ++ (10 ∷ x))))
+    ≡ loadWord ++ (field (m .fed) ++ (field (m .dark) ++ (field (m .lost) ++ (10 ∷ y)))) = simp append-assoc at e in
+    let a = next-split (l .fed) (m .fed) (l .dark) (m .dark) (field (l .lost) ++ (10 ∷ x)) (field (m .lost) ++ (10 ∷ y)) (cancel loadWord _ _ flat) in
+    let b = next-split (l .dark) (m .dark) (l .lost) (m .lost) (10 ∷ x) (10 ∷ y) (a .1) in
+    let c = last-split (l .lost) (m .lost) x y (b .1) in
+    ((λ i. record { fed = a .0 i; dark = b .0 i; lost = c .0 i }), c .1)
 
--- the LOAD line is no step's
-load-no-step : (l : Sums) (k : ℕ) (w : Bool) (x : List ℕ) → loadLine l ≡ stepLine k w ++ x → ⊥
+-- it is no step's
+load-no-step : (l : Sums) (k : ℕ) (w : Bool) (x y : List ℕ) → loadLine l ++ x ≡ stepLine k w ++ y → ⊥
 unfolding loadLine stepLine
-load-no-step l k true x e = let head : _≡_ {A = ℕ} 76 67 = ap (λ (t : List ℕ). getD t 0 0) e in omega arith
-load-no-step l k false x e = let head : _≡_ {A = ℕ} 76 79 = ap (λ (t : List ℕ). getD t 0 0) e in omega arith
+load-no-step l k true x y e = let head : _≡_ {A = ℕ} 76 67 = ap (λ (t : List ℕ). getD t 0 0) e in omega arith
+load-no-step l k false x y e = let head : _≡_ {A = ℕ} 76 79 = ap (λ (t : List ℕ). getD t 0 0) e in omega arith
 
-steps-split : (q r : List Step) (l m : Sums) → stepTexts q ++ loadLine l ≡ stepTexts r ++ loadLine m → (q ≡ r) × (l ≡ m)
+-- ---- the tail: its first line is LOAD, whatever lines follow
+
+abbrev behindFirst : List (List ℕ) → List ℕ
+behindFirst [] = []
+behindFirst (line ∷ lines) = textOf lines
+
+tail-first : (l : Sums) → textOf (tailLines l) ≡ loadLine l ++ behindFirst (tailLines l)
+unfolding textOf tailLines
+tail-first l = refl
+
+tail-same : (l m : Sums) → textOf (tailLines l) ≡ textOf (tailLines m) → l ≡ m
+tail-same l m e = load-split l m (behindFirst (tailLines l)) (behindFirst (tailLines m)) (sym (tail-first l) ∙ e ∙ tail-first m) .0
+
+tail-no-step : (l : Sums) (k : ℕ) (w : Bool) (y : List ℕ) → textOf (tailLines l) ≡ stepLine k w ++ y → ⊥
+tail-no-step l k w y e = load-no-step l k w (behindFirst (tailLines l)) y (sym (tail-first l) ∙ e)
+
+-- ---- the planner's texts
+
+steps-split : (q r : List Step) (l m : Sums) → stepTexts q ++ textOf (tailLines l) ≡ stepTexts r ++ textOf (tailLines m) → (q ≡ r) × (l ≡ m)
 unfolding stepTexts
-steps-split [] [] l m e = (refl, load-same l m e)
-steps-split [] (t ∷ r) l m e = absurd (load-no-step l (t .link) (t .want) (stepTexts r ++ loadLine m) (e ∙ append-assoc (stepLine (t .link) (t .want)) (stepTexts r) (loadLine m)))
+steps-split [] [] l m e = (refl, tail-same l m e)
+steps-split [] (t ∷ r) l m e =
+    absurd (tail-no-step l (t .link) (t .want) (stepTexts r ++ textOf (tailLines m)) (e ∙ append-assoc (stepLine (t .link) (t .want)) (stepTexts r) (textOf (tailLines m))))
 steps-split (s ∷ q) [] l m e =
-    absurd (load-no-step m (s .link) (s .want) (stepTexts q ++ loadLine l) (sym e ∙ append-assoc (stepLine (s .link) (s .want)) (stepTexts q) (loadLine l)))
+    absurd (tail-no-step m (s .link) (s .want) (stepTexts q ++ textOf (tailLines l)) (sym e ∙ append-assoc (stepLine (s .link) (s .want)) (stepTexts q) (textOf (tailLines l))))
 steps-split (s ∷ q) (t ∷ r) l m e =
-    let one = step-split (s .link) (t .link) (s .want) (t .want) (stepTexts q ++ loadLine l) (stepTexts r ++ loadLine m)
-    (sym (append-assoc (stepLine (s .link) (s .want)) (stepTexts q) (loadLine l)) ∙ e ∙ append-assoc (stepLine (t .link) (t .want)) (stepTexts r) (loadLine m)) in
+    let tail = textOf (tailLines l) in
+    let tail′ = textOf (tailLines m) in
+    let one = step-split (s .link) (t .link) (s .want) (t .want) (stepTexts q ++ tail) (stepTexts r ++ tail′)
+    (sym (append-assoc (stepLine (s .link) (s .want)) (stepTexts q) tail) ∙ e ∙ append-assoc (stepLine (t .link) (t .want)) (stepTexts r) tail′) in
     let rest = steps-split q r l m (one .2) in
     ((λ i. record { link = one .0 i; want = one .1 i } ∷ rest .0 i), rest .1)
 
 pub none-text-same : (l m : Sums) → noneLines l ≡ noneLines m → l ≡ m
-unfolding noneLines
-none-text-same l m e = load-same l m (cancel (noneWord ++ feed) (loadLine l) (loadLine m) e)
+unfolding noneLines replyText
+none-text-same l m e = tail-same l m (cancel (noneWord ++ feed) (textOf (tailLines l)) (textOf (tailLines m)) e)
 
 pub plan-text-same : (q r : List Step) (c d : ℕ) (l m : Sums) → planTextOf q c l ≡ planTextOf r d m → (q ≡ r) × (c ≡ d) × (l ≡ m)
-unfolding planTextOf planLine
+unfolding planTextOf replyText planLine
 plan-text-same q r c d l m e =
-    let one = line-split planWord (length q) c (length r) d (stepTexts q ++ loadLine l) (stepTexts r ++ loadLine m)
-    (sym (append-assoc (lineOf planWord (length q) c) (stepTexts q) (loadLine l)) ∙ e ∙ append-assoc (lineOf planWord (length r) d) (stepTexts r) (loadLine m)) in
+    let tail = textOf (tailLines l) in
+    let tail′ = textOf (tailLines m) in
+    let one = line-split planWord (length q) c (length r) d (stepTexts q ++ tail) (stepTexts r ++ tail′)
+    (sym (append-assoc (lineOf planWord (length q) c) (stepTexts q) tail) ∙ e ∙ append-assoc (lineOf planWord (length r) d) (stepTexts r) tail′) in
     let rest = steps-split q r l m (one .2) in
     (rest .0, one .1, rest .1)
 

@@ -14,7 +14,7 @@ use Rattle.plan_problem.specs.Choosing.{Promised, NoPlan}
 use Rattle.plan_form.specs.Printing.{stepsOf}
 use Rattle.plan_sums.specs.declared.Sums.{Sums}
 use Rattle.texts.specs.Texts.{field, feed, lineOf, refusedWord, refusedLine}
-use Rattle.plan_lines.specs.Lines.{planWord, noneWord, planLine, loadLine, noneLines}
+use Rattle.plan_lines.specs.Lines.{planWord, noneWord, planLine, textOf, replyText, tailLines, noneLines}
 use Rattle.plan_outcome.specs.declared.Planned.{Planned}
 use Rattle.plan_outcome.specs.declared.Reply.{Reply}
 use Rattle.plan_outcome.specs.declared.Reply.the-variants as Reply·
@@ -42,12 +42,12 @@ unfolding lineOf
 line-begins w a b = (field a ++ (field b ++ feed), simp append-assoc)
 
 plan-begins : (q : List Step) (c : ℕ) (l : Sums) → Begins planWord (planTextOf q c l)
-unfolding planTextOf planLine lineOf
-plan-begins q c l = (field (length q) ++ (field c ++ (feed ++ (stepTexts q ++ loadLine l))), simp append-assoc)
+unfolding planTextOf replyText planLine lineOf
+plan-begins q c l = (field (length q) ++ (field c ++ (feed ++ (stepTexts q ++ textOf (tailLines l)))), simp append-assoc)
 
 none-begins : (l : Sums) → Begins noneWord (noneLines l)
-unfolding noneLines
-none-begins l = (feed ++ loadLine l, append-assoc noneWord feed (loadLine l))
+unfolding noneLines replyText
+none-begins l = (feed ++ textOf (tailLines l), append-assoc noneWord feed (textOf (tailLines l)))
 
 pub refused-begins : (f : Refusal) → Begins refusedWord (refusedLine f)
 unfolding refusedLine

@@ -1,7 +1,7 @@
--- `plan_lines::none_lines` meets its contract: the line of NONE and the line of the loads stand in front of the buffer.
+-- `plan_lines::none_lines` meets its contract: the line of NONE and the tail stand in front of the buffer.
 -- Assumes nothing.
 use native.Mathlib.Omega.{arith}
-use Rattle.plan_lines.proofs.Lines.{none-lines-put, load-length}
+use Rattle.plan_lines.proofs.Lines.{none-lines-put}
 use borrow.Author.Needs.{needs}
 use Rattle.plan_lines.proofs.none_lines.Statement.{statement}
 use Rattle.plan_lines.proofs.none_lines.Tie as tie
@@ -15,16 +15,15 @@ put-text-requires c κs = search needs
 put-feed-requires : tie.Need-put-feed-requires
 put-feed-requires c κs = search needs
 
-put-load-requires : tie.Need-put-load-requires
-put-load-requires c κs = search needs
+put-tail-requires : tie.Need-put-tail-requires
+put-tail-requires c κs = search needs
 
 returns : tie.Need-returns
 returns c =
     let a = c .before .before .before .before .before .before .before .args in
     let word = c .before .before .before .before .put-text in
-    let last = load-length (a .sums) (omega arith) (omega arith) (omega arith) in
-    none-lines-put (a .out .now) _ _ _ _ _ _ _ (a .sums) (omega (arith, last)) (word .ensures)
-    (c .before .before .put-feed .ensures) (c .put-load .ensures) (omega arith)
+    none-lines-put (a .out .now) _ _ _ _ _ _ _ _ (a .sums) (omega arith) (word .ensures)
+    (c .before .before .put-feed .ensures) (c .put-tail .ensures .1) (omega arith) (omega arith)
 
 pub none-lines-spec : {M : Type 1} → statement M
 none-lines-spec =
@@ -33,5 +32,5 @@ none-lines-spec =
     slice-aggregate-put-text
     put-text-requires
     put-feed-requires
-    put-load-requires
+    put-tail-requires
     returns)

@@ -1,0 +1,2 @@
+pub mod Counts
+mod Filling
