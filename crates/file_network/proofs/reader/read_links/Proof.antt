@@ -4,6 +4,7 @@ use mathlib.Core.Path.{_≡_, refl, ap, sym, _∙_}
 use Prim.Native.Nat.{_+_, _-_, _<_, _≤_}
 use native.Mathlib.Omega.{arith}
 use Rattle.file_stages.specs.declared.Stage.the-variants.{Links}
+use Rattle.file_fields.specs.Views.{networkSeen}
 use Rattle.file_network.specs.Runs.{records}
 use Rattle.file_network.specs.NetworkFiles.{withLink}
 use Rattle.file_network.specs.Inputs.{networkPart}
@@ -14,12 +15,12 @@ use Rattle.file_network.proofs.reader.read_links.Statement.{statement}
 use Rattle.file_network.proofs.reader.read_links.Tie as tie
 
 abbrev Inv-loop : tie.InvT-loop
-Inv-loop s count start e net₀ at₀ stage₀ left₀ net at stage left =
-    (stage ≡ Links) × (net .links + left ≤ 96) × (records s (net₀ .elements) 0 (withLink s) left at stage net ≡ records s (net₀ .elements) 0
+Inv-loop s count start net₀ at₀ stage₀ left₀ net at stage left =
+    (stage ≡ Links) × (net .links + left ≤ 96) × (records s networkSeen (withLink s) left at stage net ≡ records s networkSeen
     (withLink s) left₀ at₀ stage₀ net₀)
 
 abbrev μ-loop : tie.MeasureT-loop
-μ-loop s count start e net₀ at₀ stage₀ left₀ net at stage left = left
+μ-loop s count start net₀ at₀ stage₀ left₀ net at stage left = left
 
 loop-holds : tie.Need-loop-holds Inv-loop μ-loop
 loop-holds c =
@@ -36,13 +37,14 @@ refused-network-requires : tie.Need-refused-network-requires Inv-loop μ-loop
 refused-network-requires c κs = tt
 
 returns : tie.Need-returns Inv-loop μ-loop
+unfolding networkSeen
 returns c =
     let args = c .before .before .before .before .before .before .before .before .args in
     let loop = c .before .before .before .before .before .before .loop in
     let record-due = c .before .before .before .before .record-due in
     c .refused-network .ensures ∙
     ap networkPart
-    (run-refused (args .s .now) (args .elements .elements) 0 (withLink (args .s .now)) _ (loop .left) (loop .at) (loop .stage) (loop .net)
+    (run-refused (args .s .now) networkSeen (withLink (args .s .now)) _ (loop .left) (loop .at) (loop .stage) (loop .net)
     (loop .inv .2) _ (omega arith) (record-due .ensures) _ (c .before .before .found .given .1))
 
 enum-known-found-2 : tie.Need-enum-known-found-2 Inv-loop μ-loop
@@ -53,10 +55,11 @@ turn :
     (c : tie.After-known-told2 Inv-loop μ-loop) →
     Turn (c .before .before .before .before .before .before .before .args .s .now) (c .before .before .before .before .before .loop .at) Links
     (c .before .found2 .given .0 .1 .0) (c .before .found2 .given .0 .1 .1 .0)
+unfolding networkSeen
 turn c =
     let args = c .before .before .before .before .before .before .before .args in
     let loop = c .before .before .before .before .before .loop in
-    turn-whole (args .s .now) (args .elements .elements) 0 (loop .at) (loop .stage) Links _ _ _ _ (c .before .before .before .record-due .ensures)
+    turn-whole (args .s .now) (networkSeen (loop .net)) (loop .at) (loop .stage) Links _ _ _ _ (c .before .before .before .record-due .ensures)
     (loop .inv .0) (c .before .found2 .given .1)
 
 link-at-requires : tie.Need-link-at-requires Inv-loop μ-loop
@@ -102,6 +105,7 @@ loop-less : tie.Need-loop-less Inv-loop μ-loop
 loop-less c = omega arith
 
 loop-again : tie.Need-loop-again Inv-loop μ-loop
+unfolding networkSeen
 loop-again c =
     let args = c .before .before .before .before .before .before .before .before .args in
     let loop = c .before .before .before .before .before .before .loop in
@@ -109,9 +113,9 @@ loop-again c =
     let w = turn (c .before) in (
       w .next-is,
       omega arith,
-      ap (records (args .s .now) (args .elements .elements) 0 (withLink (args .s .now)) (loop .left - 1) _ _)
+      ap (records (args .s .now) networkSeen (withLink (args .s .now)) (loop .left - 1) _ _)
           (link-taken (args .s .now) (loop .at) (loop .net) _ (c .link-at .ensures)) ∙
-          run-turn (args .s .now) (args .elements .elements) 0 (withLink (args .s .now)) _ (loop .left) (loop .at) (loop .stage) (loop .net)
+          run-turn (args .s .now) networkSeen (withLink (args .s .now)) _ (loop .left) (loop .at) (loop .stage) (loop .net)
           (loop .inv .2) _ (omega arith) (record-due .ensures) _ _ _ (c .before .before .found2 .given .1),
     )
 
@@ -121,7 +125,7 @@ returns-2 c =
     let args = c .before .before .before .args in
     let loop = c .before .loop in
     ap networkPart
-    (run-done (args .s .now) (args .elements .elements) 0 (withLink (args .s .now)) _ (loop .left) (loop .at) (loop .stage) (loop .net) (loop .inv .2)
+    (run-done (args .s .now) networkSeen (withLink (args .s .now)) _ (loop .left) (loop .at) (loop .stage) (loop .net) (loop .inv .2)
     (c .loop-test .left))
 
 pub read-links-spec : {M : Type 1} → statement M
