@@ -1,4 +1,5 @@
 -- What the rules of each stage's records may ask of what was read before them.
+-- Internal: what computes; `Demand1` of `theorems` says of the readers what the paper says.
 -- Assumes nothing.
 use Prim.Native.Nat.{ℕ}
 use Rattle.network.specs.declared.Network.{Network}

@@ -118,13 +118,14 @@ fn read_links(s: &[u8], count: usize, start: usize, first: Stage, elements: Netw
     requires { ⌜ (elements .links + count ≤ 96) × (first ≡ Links) ⌝ }
     ensures { λ r. ⌜ r ≡ networkPart (records (now (s .entry)) networkSeen (withLink (now (s .entry))) count start first elements) ⌝ }
 {
+    let e = elements.elements;
     let mut net = elements;
     let mut at = start;
     let mut stage = first;
     let mut left = count;
     while 0 < left {
         let seen = Seen {
-            elements: net.elements,
+            elements: e,
             links: net.links,
         };
         let found = record_due(s, at, stage, seen);
