@@ -8,6 +8,7 @@ use lib.ListN.{getD}
 use Rattle.network.specs.declared.refusal.Rule.the-variants.{HeadOutOfRange, UnknownFlags, BadEnds, UnknownForm, UnsuitedCost, TooManySteps, UnknownLink, UnknownState}
 use Rattle.network.specs.Refusals.{Check, check, pick}
 use Rattle.network.specs.Accepted.{suits}
+use Rattle.file_fields.specs.declared.Seen.{Seen}
 
 -- "Numbers are unsigned, two bytes, low byte first"
 unfoldable pub word : List ℕ → ℕ → ℕ
@@ -55,11 +56,11 @@ abbrev pub only : Bool → List Check → List Check
 only true cs = cs
 only false cs = []
 
--- Rules 5 to 12 of a record of a kind
-unfoldable pub fieldRules : List ℕ → ℕ → ℕ → ℕ → ℕ → List Check
-fieldRules s at kind elements links =
+-- Rules 5 to 12 of a record of a kind, by what was read before it
+unfoldable pub fieldRules : List ℕ → ℕ → ℕ → Seen → List Check
+fieldRules s at kind seen =
     only (eqb kind 1) (headRules s at) ++
     only (eqb kind 2) (elementRules s at) ++
-    only (eqb kind 3) (linkRules s at elements) ++
+    only (eqb kind 3) (linkRules s at (seen .elements)) ++
     only (eqb kind 5) (planHeadRules s at) ++
-    only (eqb kind 6) (stepRules s at links)
+    only (eqb kind 6) (stepRules s at (seen .links))

@@ -10,6 +10,20 @@ ghost use Rattle.network.specs.Refusals.{firstBroken};
 ghost use Rattle.network.specs.Accepted.{suits};
 ghost use Rattle.file_fields.specs.Fields.{word, lengthOf, either, headRules, elementRules, linkRules, planHeadRules, stepRules, fieldRules};
 
+// What a record's rules may ask of what was read before it: how many elements and links the network has so far.
+pub struct Seen {
+    pub elements: usize,
+    pub links: usize,
+}
+
+impl Seen {
+    // What stands before a record whose rules ask nothing of it: a head, an element, an end.
+    pub const NOTHING: Seen = Seen {
+        elements: 0,
+        links: 0,
+    };
+}
+
 // The number of two bytes at an offset, low byte first.
 pub fn word_at(s: &[u8], at: usize) -> u16
     requires { ⌜ at + 1 < length (now s) ⌝ }
@@ -128,9 +142,9 @@ fn step_rules(s: &[u8], at: usize, links: usize) -> Verdict
 }
 
 // Rules 5 to 12, those that speak of a record of this kind.
-pub fn field_rules(s: &[u8], at: usize, kind: u16, elements: usize, links: usize) -> Verdict
+pub fn field_rules(s: &[u8], at: usize, kind: u16, seen: Seen) -> Verdict
     requires { ⌜ at + lengthOf kind ≤ length (now s) ⌝ }
-    ensures { λ r. ⌜ r ≡ firstBroken (fieldRules (now (s .entry)) at kind elements links) ⌝ }
+    ensures { λ r. ⌜ r ≡ firstBroken (fieldRules (now (s .entry)) at kind seen) ⌝ }
 {
     match kind {
         1 => {
@@ -140,13 +154,13 @@ pub fn field_rules(s: &[u8], at: usize, kind: u16, elements: usize, links: usize
             return element_rules(s, at);
         }
         3 => {
-            return link_rules(s, at, elements);
+            return link_rules(s, at, seen.elements);
         }
         5 => {
             return plan_head_rules(s, at);
         }
         6 => {
-            return step_rules(s, at, links);
+            return step_rules(s, at, seen.links);
         }
         _ => {
             return Verdict::Kept;

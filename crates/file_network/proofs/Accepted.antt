@@ -1,6 +1,6 @@
 -- A network file that is read whole is well formed: what it states is what is kept, and by the rules that each of its records keeps.
 -- Assumes nothing.
-use mathlib.Core.Path.{_≡_, sym, _∙_}
+use mathlib.Core.Path.{_≡_, sym, subst, _∙_}
 use mathlib.Core.Bool.{true}
 use mathlib.Core.List.{List}
 use Prim.Native.Nat.{ℕ, _+_, _^_, _<_, _≤_}
@@ -11,7 +11,9 @@ use Rattle.file_stages.specs.declared.Stage.the-variants.{Elements, Links}
 use Rattle.network.specs.declared.Element.{Element}
 use Rattle.network.specs.declared.Link.{Link}
 use Rattle.network.specs.declared.Network.{Network}
+use Rattle.file_fields.specs.declared.Seen.{Seen}
 use Rattle.file_fields.specs.Fields.{word}
+use Rattle.file_fields.specs.Views.{networkSeen}
 use Rattle.network.specs.Accepted.{suits}
 use Rattle.file_network.specs.Runs.{reached}
 use Rattle.file_network.specs.NetworkFiles.{elementOf, linkOf, networkFile}
@@ -40,8 +42,8 @@ pub record LinkIn (elements : ℕ) (l : Link) : Type 0 where
   pub cost-in : l .cost < 65536
   pub suited : suits (l .form) (l .cost) ≡ true
 
-module _ {s : List ℕ} {elements links at kind long : ℕ} {next : Stage} (bytes : (i : ℕ) → getD s i 0 < 256) where
-  pub element-in : Whole s elements links at Elements kind long next → ElementIn (elementOf s at)
+module _ {s : List ℕ} {seen : Seen} {at kind long : ℕ} {next : Stage} (bytes : (i : ℕ) → getD s i 0 < 256) where
+  pub element-in : Whole s seen at Elements kind long next → ElementIn (elementOf s at)
   unfolding elementOf
   element-in w =
       record {
@@ -50,7 +52,7 @@ module _ {s : List ℕ} {elements links at kind long : ℕ} {next : Stage} (byte
         flags-in = element-kept (as-kind (kind-there w) w);
       }
 
-  pub link-in : Whole s elements links at Links kind long next → LinkIn elements (linkOf s at)
+  pub link-in : Whole s seen at Links kind long next → LinkIn (seen .elements) (linkOf s at)
   unfolding linkOf
   link-in w =
       let kept = link-kept (as-kind (kind-there w) w) in
@@ -68,6 +70,7 @@ pub network-well-formed :
     ((i : ℕ) → getD s i 0 < 256) →
     networkFile s ≡ reached at stage n →
     WellFormed n
+unfolding networkSeen
 network-well-formed s at stage n bytes h =
     let size = network-size s at stage n h in
     let holds = network-holds s at stage n h in
@@ -75,7 +78,8 @@ network-well-formed s at stage n bytes h =
     let element : (i : ℕ) (lt : i < n .elements) → ElementIn (elementOf s (holds .element i lt .found .place)) =
     λ i lt. element-in bytes (holds .element i lt .found .whole) in
     let link : (l : ℕ) (lt : l < n .links) → LinkIn (word s 4) (linkOf s (holds .link l lt .found .place)) =
-    λ l lt. link-in bytes (holds .link l lt .found .whole) in
+    λ l lt. subst (λ (k : ℕ). LinkIn k (linkOf s (holds .link l lt .found .place))) (holds .link l lt .elements-are)
+    (link-in bytes (holds .link l lt .found .whole)) in
     record {
       some = omega (arith, counts .some, size .links .elements-are);
       elements-fit = omega (arith, counts .elements-fit, size .links .elements-are);

@@ -12,6 +12,7 @@ use Rattle.network.specs.declared.refusal.Rule.{Rule}
 use Rattle.network.specs.declared.refusal.Rule.the-variants.{ByteAfterEnd}
 use Rattle.network.specs.Refusals.{pick}
 use Rattle.file_stages.specs.declared.Stage.{Stage}
+use Rattle.file_fields.specs.declared.Seen.{Seen}
 use Rattle.file_records.specs.declared.Found.{Found}
 use Rattle.file_records.specs.declared.Found.the-variants.{Record, Refused}
 use Rattle.file_records.specs.Records.{dueAt}
@@ -71,42 +72,49 @@ pub moved-equal : {A : Type 0} {at : ℕ} {o o′ : Reading A} → Moved _≡_ a
 moved-equal (both-refused rule i h h′) = h ∙ sym h′
 moved-equal {A} {at} (both-reached i stage a b h h′ r) = h ∙ ap (reached (at + i) stage) r ∙ sym h′
 
-module _ {A B : Type 0} (R : A → B → Type 0) (s t : List ℕ) (elements links : ℕ) (into : ℕ → A → A) (into′ : ℕ → B → B) (upto : ℕ)
-    (P : Stage → Type 0) (stays : (st : Stage) → P st → P (nextAt st))
+module _ {A B : Type 0} (R : A → B → Type 0) (s t : List ℕ) (seen : A → Seen) (seen′ : B → Seen) (into : ℕ → A → A) (into′ : ℕ → B → B) (upto : ℕ)
+    (views : (a : A) (b : B) → R a b → seen a ≡ seen′ b) (P : Stage → Type 0) (stays : (st : Stage) → P st → P (nextAt st))
     (taken : (at at′ : ℕ) (st : Stage) (kind long : ℕ) (next : Stage) (a : A) (b : B)
-    → P st → Whole s elements links at st kind long next → SameFrom s t at at′ upto → at + long ≤ upto → R a b → R (into at a) (into′ at′ b)) where
-  -- the same bytes as far as the run looks: the same outcome, moved, with related values, where each record of the stages that P names is taken in alike
-  pub alike : (n at at′ : ℕ) (stage : Stage) (a : A) (b : B) → P stage → SameFrom s t at at′ upto → looks s elements links n at stage ≤ upto
-      → R a b → Moved R at at′ (records s elements links into n at stage a) (records t elements links into′ n at′ stage b)
+    → P st → Whole s (seen a) at st kind long next → SameFrom s t at at′ upto → at + long ≤ upto → R a b → R (into at a) (into′ at′ b)) where
+  -- the same record is due where the values read before it are related: their views are equal
+  due-there : (at at′ : ℕ) (stage : Stage) (a : A) (b : B) → SameFrom s t at at′ upto → at + looksAt s at stage ≤ upto → R a b
+      → dueAt t (seen′ b) at′ stage ≡ placed at′ (dueAt s (seen a) at stage)
+  due-there at at′ stage a b same far r =
+      ap (λ (v : Seen). dueAt t v at′ stage) (sym (views a b r)) ∙ due-alike s t at at′ upto stage same far (seen a)
+
+  -- the same bytes as far as the run looks: the same outcome, moved, with related values, where related values have equal views and each record of the
+  -- stages that P names is taken in alike
+  pub alike : (n at at′ : ℕ) (stage : Stage) (a : A) (b : B) → P stage → SameFrom s t at at′ upto → looks s seen into n at stage a ≤ upto
+      → R a b → Moved R at at′ (records s seen into n at stage a) (records t seen′ into′ n at′ stage b)
   alike zero at at′ stage a b p same far r =
-      moved-by (records-none s elements links into at stage a) (records-none t elements links into′ at′ stage b) (reached-here at at′ stage a b r)
+      moved-by (records-none s seen into at stage a) (records-none t seen′ into′ at′ stage b) (reached-here at at′ stage a b r)
   alike (suc n) at at′ stage a b p same far r =
-      go (dueAt s elements links at stage) refl (λ long next a′ b′. alike n (at + long) (at′ + long) next a′ b′)
+      go (dueAt s (seen a) at stage) refl (λ long next a′ b′. alike n (at + long) (at′ + long) next a′ b′)
     where
-      go : (f : Found) → dueAt s elements links at stage ≡ f
+      go : (f : Found) → dueAt s (seen a) at stage ≡ f
           → ((long : ℕ) (next : Stage) (a′ : A) (b′ : B) → P next → SameFrom s t (at + long) (at′ + long) upto
-          → looks s elements links n (at + long) next ≤ upto → R a′ b′
-          → Moved R (at + long) (at′ + long) (records s elements links into n (at + long) next a′) (records t elements links into′ n (at′ + long) next b′))
-          → Moved R at at′ (records s elements links into (suc n) at stage a) (records t elements links into′ (suc n) at′ stage b)
+          → looks s seen into n (at + long) next a′ ≤ upto → R a′ b′
+          → Moved R (at + long) (at′ + long) (records s seen into n (at + long) next a′) (records t seen′ into′ n (at′ + long) next b′))
+          → Moved R at at′ (records s seen into (suc n) at stage a) (records t seen′ into′ (suc n) at′ stage b)
       go (Record kind long next) d further =
-          let w = due-kept s elements links at stage d in
-          let seen = framed-looks s at stage kind long next (w .framed) in
-          let rest : looks s elements links n (at + long) next ≤ upto = rw (looks-suc s elements links n at stage kind long next d) at far in
-          let room : at + long ≤ upto = omega (arith, run-looked s elements links into n (at + long) next a .from) in
-          let there : dueAt t elements links at′ stage ≡ Record kind long next =
-          due-alike s t at at′ upto stage same (omega arith) elements links ∙ ap (placed at′) d in
+          let w = due-kept s (seen a) at stage d in
+          let whole = framed-looks s at stage kind long next (w .framed) in
+          let rest : looks s seen into n (at + long) next (into at a) ≤ upto = rw (looks-suc s seen into n at stage a kind long next d) at far in
+          let room : at + long ≤ upto = omega (arith, run-looked s seen into n (at + long) next (into at a) .from) in
+          let there : dueAt t (seen′ b) at′ stage ≡ Record kind long next =
+          due-there at at′ stage a b same (omega arith) r ∙ ap (placed at′) d in
           let on : P next = subst P (sym (w .framed .next-at)) (stays stage p) in
-          moved-by (records-suc s elements links into n at stage a kind long next d)
-          (records-suc t elements links into′ n at′ stage b kind long next there)
+          moved-by (records-suc s seen into n at stage a kind long next d)
+          (records-suc t seen′ into′ n at′ stage b kind long next there)
           (moved-from long
           (further long next (into at a) (into′ at′ b) on (same-on same long) rest
           (taken at at′ stage kind long next a b p w same room r)))
       go (Refused x) d further =
-          let seen : at + looksAt s at stage ≤ upto = rw (looks-refused s elements links n at stage x d) at far in
-          let there = due-alike s t at at′ upto stage same seen elements links ∙ ap (placed at′) d in
-          let place-is : x ≡ record { rule = x .rule; place = at } = ap (λ (k : ℕ). record { rule = x .rule; place = k }) (due-refused s elements links at stage d .1) in
-          moved-by (records-refused s elements links into (suc n) at stage a x (omega arith) d ∙ ap refused place-is)
-          (records-refused t elements links into′ (suc n) at′ stage b _ (omega arith) there)
+          let looked : at + looksAt s at stage ≤ upto = rw (looks-refused s seen into n at stage a x d) at far in
+          let there = due-there at at′ stage a b same looked r ∙ ap (placed at′) d in
+          let place-is : x ≡ record { rule = x .rule; place = at } = ap (λ (k : ℕ). record { rule = x .rule; place = k }) (due-refused s (seen a) at stage d .1) in
+          moved-by (records-refused s seen into (suc n) at stage a x (omega arith) d ∙ ap refused place-is)
+          (records-refused t seen′ into′ (suc n) at′ stage b _ (omega arith) there)
           (refused-here (x .rule) at at′)
 
 -- two parts, one behind the other, that look at the same bytes elsewhere
@@ -125,11 +133,11 @@ then-alike {A} at at′ upto l look o o′ f g first grows then far =
 
 module _ (s t : List ℕ) (upto : ℕ) where
   -- a head or an end record
-  pub one-alike : {A : Type 0} (elements links at at′ : ℕ) (stage : Stage) (a : A) → SameFrom s t at at′ upto → looks s elements links 1 at stage ≤ upto
-      → Moved _≡_ at at′ (records s elements links asIs 1 at stage a) (records t elements links asIs 1 at′ stage a)
-  one-alike elements links at at′ stage a same far =
-      alike _≡_ s t elements links asIs asIs upto (λ st. Unit {0}) (λ st p. tt) (λ at at′ st kind long next a b p w same room r. r) 1 at at′ stage a a tt same far
-      refl
+  pub one-alike : {A : Type 0} (seen : A → Seen) (at at′ : ℕ) (stage : Stage) (a : A) → SameFrom s t at at′ upto → looks s seen asIs 1 at stage a ≤ upto
+      → Moved _≡_ at at′ (records s seen asIs 1 at stage a) (records t seen asIs 1 at′ stage a)
+  one-alike seen at at′ stage a same far =
+      alike _≡_ s t seen seen asIs asIs upto (λ a b r. ap seen r) (λ st. Unit {0}) (λ st p. tt) (λ at at′ st kind long next a b p w same room r. r)
+      1 at at′ stage a a tt same far refl
 
   -- rule 13
   pub closed-alike : {A : Type 0} (at at′ : ℕ) (stage : Stage) (a : A) → SameFrom s t at at′ upto → at + 1 ≤ upto

@@ -8,15 +8,17 @@ use Rattle.network.specs.declared.refusal.Refusal.{Refusal}
 use Rattle.file_stages.specs.declared.Stage.{Stage}
 use Rattle.file_stages.specs.declared.Stage.the-variants.{Elements, Links}
 use Rattle.network.specs.declared.Network.{Network}
+use Rattle.file_fields.specs.declared.Seen.{Seen}
 use Rattle.file_records.specs.declared.Found.{Found}
 use Rattle.file_records.specs.declared.Found.the-variants.{Record, Refused as Found·Refused}
 use Rattle.file_network.specs.declared.reader.Reached.the-variants.{At, Refused}
 use Rattle.file_network.specs.declared.reader.NetworkPart.{NetworkPart}
 use Rattle.file_stages.specs.Stages.{afterLast}
 use Rattle.file_fields.specs.Fields.{word}
+use Rattle.file_fields.specs.Views.{nothingSeen, networkSeen}
 use Rattle.file_records.specs.Records.{dueAt}
 use Rattle.network.specs.Networks.{emptyNetwork}
-use Rattle.file_network.specs.Runs.{Reading, refused, reached, readOn, records, asIs}
+use Rattle.file_network.specs.Runs.{Reading, refused, reached, readOn, records, always, asIs}
 use Rattle.file_network.specs.NetworkFiles.{withElement, withLink, elementsOn, linksOn, endOn}
 use Rattle.file_network.specs.Inputs.{networkPart}
 use Rattle.file_network.proofs.Runs.{records-none, records-refused, records-suc, run-same, run-ends}
@@ -24,21 +26,21 @@ use Rattle.file_network.proofs.Parts.{elementsRun}
 use Rattle.file_network.proofs.Outcomes.{network-refused, network-reached}
 
 -- a head: one record, then what its stage begins
-module _ {A : Type 0} (s : List ℕ) (links at : ℕ) (stage : Stage) (empty : A) (f : ℕ → Stage → A → Reading A) (found : Found)
-    (due : found ≡ dueAt s 0 links at stage) where
-  pub head-refused : (r : Refusal) → found ≡ Found·Refused r → refused r ≡ readOn (records s 0 links asIs 1 at stage empty) f
-  head-refused r h = ap (λ (o : Reading A). readOn o f) (sym (records-refused s 0 links asIs 1 at stage empty r (omega arith) (sym due ∙ h)))
+module _ {A : Type 0} (s : List ℕ) (seen : A → Seen) (at : ℕ) (stage : Stage) (empty : A) (f : ℕ → Stage → A → Reading A) (found : Found)
+    (due : found ≡ dueAt s (seen empty) at stage) where
+  pub head-refused : (r : Refusal) → found ≡ Found·Refused r → refused r ≡ readOn (records s seen asIs 1 at stage empty) f
+  head-refused r h = ap (λ (o : Reading A). readOn o f) (sym (records-refused s seen asIs 1 at stage empty r (omega arith) (sym due ∙ h)))
 
   pub head-found : (kind long : ℕ) (next : Stage) → found ≡ Record kind long next → f (at + long) next empty ≡ readOn
-      (records s 0 links asIs 1 at stage empty) f
+      (records s seen asIs 1 at stage empty) f
   head-found kind long next h =
       ap (λ (o : Reading A). readOn o f)
-      (sym (records-suc s 0 links asIs 0 at stage empty kind long next (sym due ∙ h) ∙ records-none s 0 links asIs (at + long) next empty))
+      (sym (records-suc s seen asIs 0 at stage empty kind long next (sym due ∙ h) ∙ records-none s seen asIs (at + long) next empty))
 
 -- the links, then the end
 module _ (s : List ℕ) (at : ℕ) (stage : Stage) (n : Network) (part : NetworkPart) where
   abbrev linksHere : Reading Network
-  linksHere = records s (n .elements) 0 (withLink s) (word s 6) at stage n
+  linksHere = records s networkSeen (withLink s) (word s 6) at stage n
 
   abbrev thenEnd : ℕ → Stage → Network → Reading Network
   thenEnd after next net = endOn s after (afterLast next) net
@@ -71,7 +73,7 @@ module _ (s : List ℕ) (at : ℕ) (stage : Stage) (part : NetworkPart) where
     unfolding withElement emptyNetwork
     elements-leave e =
         let run = network-reached (elementsRun s at stage emptyNetwork) thenLinks part after next hp h .0 in
-        let ends = run-ends s 0 0 (withElement s) (word s 4) at stage emptyNetwork after next (part .net) run (rw e) in (
-          run-same s 0 0 (withElement s) (word s 4) at stage emptyNetwork after next (part .net) run (λ m. m .links) (λ p m. refl),
+        let ends = run-ends s (always nothingSeen) (withElement s) (word s 4) at stage emptyNetwork after next (part .net) run (rw e) in (
+          run-same s (always nothingSeen) (withElement s) (word s 4) at stage emptyNetwork after next (part .net) run (λ m. m .links) (λ p m. refl),
           ap afterLast (ends .1 ∙ e),
         )

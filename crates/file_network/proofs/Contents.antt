@@ -11,9 +11,11 @@ use lib.Seq.{getD-set-same, getD-set-other}
 use Rattle.file_stages.specs.declared.Stage.{Stage}
 use Rattle.file_stages.specs.declared.Stage.the-variants.{Elements, Links}
 use Rattle.network.specs.declared.Network.{Network}
+use Rattle.file_fields.specs.declared.Seen.{Seen}
 use Rattle.file_fields.specs.Fields.{word}
+use Rattle.file_fields.specs.Views.{nothingSeen, networkSeen}
 use Rattle.network.specs.Networks.{emptyNetwork}
-use Rattle.file_network.specs.Runs.{reached, records}
+use Rattle.file_network.specs.Runs.{reached, records, always}
 use Rattle.file_network.specs.NetworkFiles.{elementOf, linkOf, withElement, withLink, networkFile}
 use Rattle.file_records.proofs.Due.{nextAt}
 use Rattle.file_network.proofs.Runs.{Nth, run-same, run-keeps}
@@ -22,14 +24,14 @@ use Rattle.file_network.proofs.Sizes.{ElementsRead, LinksRead, NetworkS
 upto : (k : ℕ) (Q : ℕ → Type 0) → ((j : ℕ) → j < k → Q j) → Q k → (j : ℕ) → j < suc k → Q j
 upto k Q below here j lt = ⊎-elim (λ (e : j ≡ k). rw e here) (below j) (eq-or-lt-of-le (le-of-suc-le-suc lt))
 
-module _ {A : Type 0} (s : List ℕ) (elements links : ℕ) (into : ℕ → A → A) (n at : ℕ) (stage : Stage) (a : A) (end : ℕ) (last : Stage) (b : A)
-    (run : records s elements links into n at stage a ≡ reached end last b) (back : nextAt stage ≡ stage) where
+module _ {A : Type 0} (s : List ℕ) (seen : A → Seen) (into : ℕ → A → A) (n at : ℕ) (stage : Stage) (a : A) (end : ℕ) (last : Stage) (b : A)
+    (run : records s seen into n at stage a ≡ reached end last b) (back : nextAt stage ≡ stage) where
   -- each record of the run breaks no rule
-  pub run-nth : (j : ℕ) → j < n → Nth s elements links into at stage a j
+  pub run-nth : (j : ℕ) → j < n → Nth s seen into at stage a j
   run-nth =
-      run-keeps s elements links into n at stage a end last b run back (λ k a'. (j : ℕ) → j < k → Nth s elements links into at stage a j)
+      run-keeps s seen into n at stage a end last b run back (λ k a'. (j : ℕ) → j < k → Nth s seen into at stage a j)
       (λ j lt. absurd (not-suc-le-zero lt))
-      (λ done lt r old. upto done (Nth s elements links into at stage a) old r)
+      (λ done lt r old. upto done (Nth s seen into at stage a) old r)
 
   -- a list that each record adds one entry to, and the count of its entries
   module _ {B : Type 0} (list : A → List B) (count : A → ℕ) (entry : ℕ → B) (d : B)
@@ -37,11 +39,11 @@ module _ {A : Type 0} (s : List ℕ) (elements links : ℕ) (into : ℕ → A �
       (sets : (at : ℕ) (a : A) → list (into at a) ≡ set (list a) (count a) (entry at))
       (counts : (at : ℕ) (a : A) → count (into at a) ≡ count a + 1) where
     abbrev Held : A → ℕ → Type 0
-    Held x j = (r : Nth s elements links into at stage a j) → getD (list x) j d ≡ entry (r .place)
+    Held x j = (r : Nth s seen into at stage a j) → getD (list x) j d ≡ entry (r .place)
 
     filled : (count b ≡ n) × (length (list b) ≡ length (list a)) × ((j : ℕ) → j < n → Held b j)
     filled =
-        run-keeps s elements links into n at stage a end last b run back
+        run-keeps s seen into n at stage a end last b run back
         (λ k a'. (count a' ≡ k) × (length (list a') ≡ length (list a)) × ((j : ℕ) → j < k → Held a' j))
         (none, refl, λ j lt. absurd (not-suc-le-zero lt))
         (λ done lt r old.
@@ -65,13 +67,13 @@ module _ {A : Type 0} (s : List ℕ) (elements links : ℕ) (into : ℕ → A �
     pub run-long : length (list b) ≡ length (list a)
     run-long = filled .1
 
-    pub run-fills : (j : ℕ) → j < n → (r : Nth s elements links into at stage a j) → getD (list b) j d ≡ entry (r .place)
+    pub run-fills : (j : ℕ) → j < n → (r : Nth s seen into at stage a j) → getD (list b) j d ≡ entry (r .place)
     run-fills = filled .2
 
 -- The elements and the links of the file: the record of each, behind those before it, and the fields of it that are kept.
 
 pub record ElementAt (s : List ℕ) (n : Network) (i : ℕ) : Type 0 where
-  pub found : Nth s 0 0 (withElement s) 8 Elements emptyNetwork i
+  pub found : Nth s (always nothingSeen) (withElement s) 8 Elements emptyNetwork i
   pub load-is : getD (n .load) i 0 ≡ elementOf s (found .place) .load
   pub capacity-is : getD (n .capacity) i 0 ≡ elementOf s (found .place) .capacity
   pub flags-is : getD (n .flags) i 0 ≡ elementOf s (found .place) .flags
@@ -79,8 +81,9 @@ pub record ElementAt (s : List ℕ) (n : Network) (i : ℕ) : Type 0 where
 pub record LinkAt (s : List ℕ) (n : Network) (l : ℕ) : Type 0 where
   pub start : ℕ
   pub net : Network
-  pub elements : records s 0 0 (withElement s) (word s 4) 8 Elements emptyNetwork ≡ reached start Elements net
-  pub found : Nth s (word s 4) 0 (withLink s) start Links net l
+  pub elements : records s (always nothingSeen) (withElement s) (word s 4) 8 Elements emptyNetwork ≡ reached start Elements net
+  pub found : Nth s networkSeen (withLink s) start Links net l
+  pub elements-are : found .value .elements ≡ word s 4
   pub from-is : getD (n .from) l 0 ≡ linkOf s (found .place) .from
   pub to-is : getD (n .to) l 0 ≡ linkOf s (found .place) .to
   pub form-is : getD (n .form) l 0 ≡ linkOf s (found .place) .form
@@ -129,7 +132,7 @@ elements-hold s at stage n e =
           };
       element =
           λ i lt.
-          let found = run-nth s 0 0 (withElement s) (word s 4) 8 Elements emptyNetwork at stage n (e .run) refl i lt in
+          let found = run-nth s (always nothingSeen) (withElement s) (word s 4) 8 Elements emptyNetwork at stage n (e .run) refl i lt in
           record {
             found = found;
             load-is = fills (λ n. n .load) (λ at. elementOf s at .load) (omega (arith, empty-long, e .counts .elements-fit)) (λ at n. refl) i lt
@@ -142,14 +145,14 @@ elements-hold s at stage n e =
     }
   where
     same : (list : Network → List ℕ) → ((at : ℕ) (n : Network) → list (withElement s at n) ≡ list n) → list n ≡ list emptyNetwork
-    same list h = run-same s 0 0 (withElement s) (word s 4) 8 Elements emptyNetwork at stage n (e .run) list h
+    same list h = run-same s (always nothingSeen) (withElement s) (word s 4) 8 Elements emptyNetwork at stage n (e .run) list h
 
     long : (list : Network → List ℕ) (entry : ℕ → ℕ) →
         word s 4 ≤ length (list emptyNetwork) →
         ((at : ℕ) (n : Network) → list (withElement s at n) ≡ set (list n) (n .elements) (entry at)) →
         length (list n) ≡ length (list emptyNetwork)
     long list entry fits sets =
-        run-long s 0 0 (withElement s) (word s 4) 8 Elements emptyNetwork at stage n (e .run) refl list (λ n. n .elements) entry 0 refl fits sets
+        run-long s (always nothingSeen) (withElement s) (word s 4) 8 Elements emptyNetwork at stage n (e .run) refl list (λ n. n .elements) entry 0 refl fits sets
         (λ at n. refl)
 
     fills : (list : Network → List ℕ) (entry : ℕ → ℕ) →
@@ -157,10 +160,10 @@ elements-hold s at stage n e =
         ((at : ℕ) (n : Network) → list (withElement s at n) ≡ set (list n) (n .elements) (entry at)) →
         (i : ℕ) →
         i < word s 4 →
-        (r : Nth s 0 0 (withElement s) 8 Elements emptyNetwork i) →
+        (r : Nth s (always nothingSeen) (withElement s) 8 Elements emptyNetwork i) →
         getD (list n) i 0 ≡ entry (r .place)
     fills list entry fits sets =
-        run-fills s 0 0 (withElement s) (word s 4) 8 Elements emptyNetwork at stage n (e .run) refl list (λ n. n .elements) entry 0 refl fits sets
+        run-fills s (always nothingSeen) (withElement s) (word s 4) 8 Elements emptyNetwork at stage n (e .run) refl list (λ n. n .elements) entry 0 refl fits sets
         (λ at n. refl)
 
 pub record NetworkHolds (s : List ℕ) (n : Network) : Type 0 where
@@ -194,12 +197,15 @@ network-holds s at stage n h =
       link =
           λ l lt.
           let lt' : l < word s 6 = omega (arith, size .links .links-are) in
-          let found = run-nth s (word s 4) 0 (withLink s) (word s 6) start Links net _ Links n (links .run) refl l lt' in
+          let found = run-nth s networkSeen (withLink s) (word s 6) start Links net _ Links n (links .run) refl l lt' in
           record {
             start = start;
             net = net;
             elements = links .elements .run;
             found = found;
+            elements-are =
+                run-same s networkSeen (withLink s) l start Links net (found .place) Links (found .value) (found .before) (λ n. n .elements)
+                (λ at n. refl) ∙ links .elements .elements-are;
             from-is = fills (λ n. n .from) (λ at. linkOf s at .from) (before .long .from-long) (λ at n. refl) l lt' found;
             to-is = fills (λ n. n .to) (λ at. linkOf s at .to) (before .long .to-long) (λ at n. refl) l lt' found;
             form-is = fills (λ n. n .form) (λ at. linkOf s at .form) (before .long .form-long) (λ at n. refl) l lt' found;
@@ -223,14 +229,14 @@ network-holds s at stage n h =
     before = elements-hold s start Elements net (links .elements)
 
     same : (list : Network → List ℕ) → ((at : ℕ) (n : Network) → list (withLink s at n) ≡ list n) → list n ≡ list net
-    same list h = run-same s (word s 4) 0 (withLink s) (word s 6) start Links net _ Links n (links .run) list h
+    same list h = run-same s networkSeen (withLink s) (word s 6) start Links net _ Links n (links .run) list h
 
     long : (list : Network → List ℕ) (entry : ℕ → ℕ) →
         length (list net) ≡ 96 →
         ((at : ℕ) (n : Network) → list (withLink s at n) ≡ set (list n) (n .links) (entry at)) →
         length (list n) ≡ 96
     long list entry whole sets =
-        run-long s (word s 4) 0 (withLink s) (word s 6) start Links net _ Links n (links .run) refl list (λ n. n .links) entry 0
+        run-long s networkSeen (withLink s) (word s 6) start Links net _ Links n (links .run) refl list (λ n. n .links) entry 0
         (links .elements .links-are) (omega (arith, links .elements .counts .links-fit)) sets (λ at n. refl) ∙ whole
 
     fills : (list : Network → List ℕ) (entry : ℕ → ℕ) →
@@ -238,8 +244,8 @@ network-holds s at stage n h =
         ((at : ℕ) (n : Network) → list (withLink s at n) ≡ set (list n) (n .links) (entry at)) →
         (l : ℕ) →
         l < word s 6 →
-        (r : Nth s (word s 4) 0 (withLink s) start Links net l) →
+        (r : Nth s networkSeen (withLink s) start Links net l) →
         getD (list n) l 0 ≡ entry (r .place)
     fills list entry whole sets =
-        run-fills s (word s 4) 0 (withLink s) (word s 6) start Links net _ Links n (links .run) refl list (λ n. n .links) entry 0
+        run-fills s networkSeen (withLink s) (word s 6) start Links net _ Links n (links .run) refl list (λ n. n .links) entry 0
         (links .elements .links-are) (omega (arith, links .elements .counts .links-fit)) sets (λ at n. refl)

@@ -7,6 +7,7 @@ use native.Mathlib.Nat.{mul-suc}
 use native.Mathlib.Omega.{arith}
 use Rattle.network.specs.declared.refusal.Refusal.{Refusal}
 use Rattle.file_stages.specs.declared.Stage.{Stage}
+use Rattle.file_fields.specs.declared.Seen.{Seen}
 use Rattle.file_records.specs.declared.Found.{Found}
 use Rattle.file_records.specs.declared.Found.the-variants.{Record, Refused}
 use Rattle.file_records.specs.Records.{dueAt}
@@ -20,10 +21,10 @@ looksOn (Record kind long next) l f = f long next
 looksOn (Refused r) l f = l
 
 -- the offset up to which a run of so many records looks
-unfoldable pub looks : (s : List ℕ) (elements links : ℕ) → ℕ → ℕ → Stage → ℕ
-looks s elements links zero at stage = at
-looks s elements links (suc count) at stage =
-    looksOn (dueAt s elements links at stage) (at + looksAt s at stage) (λ long next. looks s elements links count (at + long) next)
+unfoldable pub looks : {A : Type 0} (s : List ℕ) (seen : A → Seen) (into : ℕ → A → A) → ℕ → ℕ → Stage → A → ℕ
+looks s seen into zero at stage a = at
+looks s seen into (suc count) at stage a =
+    looksOn (dueAt s (seen a) at stage) (at + looksAt s at stage) (λ long next. looks s seen into count (at + long) next (into at a))
 
 -- the offset up to which two parts look, one behind the other
 abbrev pub lookThen : {A : Type 0} → Reading A → ℕ → (ℕ → Stage → A → ℕ) → ℕ
@@ -66,66 +67,70 @@ pub look-most :
 look-most l bound look (refused r) first then = first
 look-most l bound look (reached at stage a) first then = then at stage a refl
 
-module _ (s : List ℕ) (elements links : ℕ) where
-  looks-none : (at : ℕ) (stage : Stage) → looks s elements links 0 at stage ≡ at
+module _ {A : Type 0} (s : List ℕ) (seen : A → Seen) (into : ℕ → A → A) where
+  looks-none : (at : ℕ) (stage : Stage) (a : A) → looks s seen into 0 at stage a ≡ at
   unfolding looks
-  looks-none at stage = refl
+  looks-none at stage a = refl
 
   pub looks-suc :
-      (n at : ℕ) (stage : Stage) (kind long : ℕ) (next : Stage) →
-      dueAt s elements links at stage ≡ Record kind long next →
-      looks s elements links (suc n) at stage ≡ looks s elements links n (at + long) next
+      (n at : ℕ) (stage : Stage) (a : A) (kind long : ℕ) (next : Stage) →
+      dueAt s (seen a) at stage ≡ Record kind long next →
+      looks s seen into (suc n) at stage a ≡ looks s seen into n (at + long) next (into at a)
   unfolding looks
-  looks-suc n at stage kind long next d =
-      ap (λ (f : Found). looksOn f (at + looksAt s at stage) (λ long next. looks s elements links n (at + long) next)) d
+  looks-suc n at stage a kind long next d =
+      ap (λ (f : Found). looksOn f (at + looksAt s at stage) (λ long next. looks s seen into n (at + long) next (into at a))) d
 
   pub looks-refused :
-      (n at : ℕ) (stage : Stage) (r : Refusal) →
-      dueAt s elements links at stage ≡ Refused r →
-      looks s elements links (suc n) at stage ≡ at + looksAt s at stage
+      (n at : ℕ) (stage : Stage) (a : A) (r : Refusal) →
+      dueAt s (seen a) at stage ≡ Refused r →
+      looks s seen into (suc n) at stage a ≡ at + looksAt s at stage
   unfolding looks
-  looks-refused n at stage r d =
-      ap (λ (f : Found). looksOn f (at + looksAt s at stage) (λ long next. looks s elements links n (at + long) next)) d
+  looks-refused n at stage a r d =
+      ap (λ (f : Found). looksOn f (at + looksAt s at stage) (λ long next. looks s seen into n (at + long) next (into at a))) d
 
-  pub run-looked :
-      {A : Type 0} (into : ℕ → A → A) (n at : ℕ) (stage : Stage) (a : A) →
-      Looked at (records s elements links into n at stage a) (looks s elements links n at stage)
-  run-looked into zero at stage a =
-      rw (records-none s elements links into at stage a, looks-none at stage) (record { from = omega arith; ends = λ end last b e. cc })
-  run-looked {A} into (suc n) at stage a = go (dueAt s elements links at stage) refl (run-looked into n)
+  pub run-looked : (n at : ℕ) (stage : Stage) (a : A) → Looked at (records s seen into n at stage a) (looks s seen into n at stage a)
+  run-looked zero at stage a =
+      rw (records-none s seen into at stage a, looks-none at stage a) (record { from = omega arith; ends = λ end last b e. cc })
+  run-looked (suc n) at stage a = go (dueAt s (seen a) at stage) refl (run-looked n)
     where
       go : (f : Found) →
-          dueAt s elements links at stage ≡ f →
-          ((at′ : ℕ) (stage′ : Stage) (a′ : A) → Looked at′ (records s elements links into n at′ stage′ a′) (looks s elements links n at′ stage′)) →
-          Looked at (records s elements links into (suc n) at stage a) (looks s elements links (suc n) at stage)
+          dueAt s (seen a) at stage ≡ f →
+          ((at′ : ℕ) (stage′ : Stage) (a′ : A) → Looked at′ (records s seen into n at′ stage′ a′) (looks s seen into n at′ stage′ a′)) →
+          Looked at (records s seen into (suc n) at stage a) (looks s seen into (suc n) at stage a)
       go (Record kind long next) d rest =
           let further = rest (at + long) next (into at a) in
-          rw (records-suc s elements links into n at stage a kind long next d, looks-suc n at stage kind long next d)
+          rw (records-suc s seen into n at stage a kind long next d, looks-suc n at stage a kind long next d)
           (record { from = omega (arith, further .from); ends = further .ends })
       go (Refused r) d rest =
-          rw (records-refused s elements links into (suc n) at stage a r (omega arith) d, looks-refused n at stage r d)
+          rw (records-refused s seen into (suc n) at stage a r (omega arith) d, looks-refused n at stage a r d)
           (record { from = omega arith; ends = λ end last b e. let z : _≡_ {A = ℕ} 0 1 = cc in absurd (omega arith) })
 
   -- no further than the longest records of its stage
-  pub looks-one : (at : ℕ) (stage : Stage) → 4 ≤ longest stage → looks s elements links 1 at stage ≤ at + longest stage
-  looks-one at stage four = go (dueAt s elements links at stage) refl
+  pub looks-one : (at : ℕ) (stage : Stage) (a : A) → 4 ≤ longest stage → looks s seen into 1 at stage a ≤ at + longest stage
+  looks-one at stage a four = go (dueAt s (seen a) at stage) refl
     where
-      go : (f : Found) → dueAt s elements links at stage ≡ f → looks s elements links 1 at stage ≤ at + longest stage
+      go : (f : Found) → dueAt s (seen a) at stage ≡ f → looks s seen into 1 at stage a ≤ at + longest stage
       go (Record kind long next) d =
-          omega (arith, looks-suc 0 at stage kind long next d, looks-none (at + long) next, due-kept s elements links at stage d .framed .most)
-      go (Refused r) d = omega (arith, looks-refused 0 at stage r d, looks-longest s at stage four)
+          omega (
+            arith,
+            looks-suc 0 at stage a kind long next d,
+            looks-none (at + long) next (into at a),
+            due-kept s (seen a) at stage d .framed .most,
+          )
+      go (Refused r) d = omega (arith, looks-refused 0 at stage a r d, looks-longest s at stage four)
 
-  pub looks-most : (stage : Stage) → nextAt stage ≡ stage → 4 ≤ longest stage → (n at : ℕ) → looks s elements links n at stage ≤ at + longest stage * n
-  looks-most stage back four zero at = omega (arith, looks-none at stage)
-  looks-most stage back four (suc n) at = go (dueAt s elements links at stage) refl (looks-most stage back four n)
+  pub looks-most :
+      (stage : Stage) → nextAt stage ≡ stage → 4 ≤ longest stage → (n at : ℕ) (a : A) → looks s seen into n at stage a ≤ at + longest stage * n
+  looks-most stage back four zero at a = omega (arith, looks-none at stage a)
+  looks-most stage back four (suc n) at a = go (dueAt s (seen a) at stage) refl (looks-most stage back four n)
     where
       go : (f : Found) →
-          dueAt s elements links at stage ≡ f →
-          ((at′ : ℕ) → looks s elements links n at′ stage ≤ at′ + longest stage * n) →
-          looks s elements links (suc n) at stage ≤ at + longest stage * suc n
+          dueAt s (seen a) at stage ≡ f →
+          ((at′ : ℕ) (a′ : A) → looks s seen into n at′ stage a′ ≤ at′ + longest stage * n) →
+          looks s seen into (suc n) at stage a ≤ at + longest stage * suc n
       go (Record kind long next) d more =
-          let f = due-kept s elements links at stage d .framed in
+          let f = due-kept s (seen a) at stage d .framed in
           let next-is : next ≡ stage = f .next-at ∙ back in
-          let rest : looks s elements links n (at + long) next ≤ at + long + longest stage * n = rw next-is (more (at + long)) in
-          omega (arith, looks-suc n at stage kind long next d, f .most, mul-suc (longest stage) n)
-      go (Refused r) d more = omega (arith, looks-refused n at stage r d, looks-longest s at stage four, mul-suc (longest stage) n)
+          let rest : looks s seen into n (at + long) next (into at a) ≤ at + long + longest stage * n = rw next-is (more (at + long) (into at a)) in
+          omega (arith, looks-suc n at stage a kind long next d, f .most, mul-suc (longest stage) n)
+      go (Refused r) d more = omega (arith, looks-refused n at stage a r d, looks-longest s at stage four, mul-suc (longest stage) n)

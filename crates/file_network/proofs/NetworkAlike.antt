@@ -11,9 +11,10 @@ use Rattle.file_stages.specs.declared.Stage.{Stage}
 use Rattle.file_stages.specs.declared.Stage.the-variants.{Head, Elements, Links, End}
 use Rattle.file_stages.specs.Stages.{afterLast}
 use Rattle.file_fields.specs.Fields.{word}
+use Rattle.file_fields.specs.Views.{nothingSeen, networkSeen}
 use Rattle.file_records.proofs.Due.{Framed, Whole, nextAt, longest}
 use Rattle.file_records.proofs.SameBytes.{SameFrom, same-on, take-same, append-same}
-use Rattle.file_network.specs.Runs.{Reading, reached, readOn, records, asIs}
+use Rattle.file_network.specs.Runs.{Reading, reached, readOn, records, always, asIs}
 use Rattle.file_network.specs.NetworkFiles.{elementOf, linkOf, withElement, withLink, endOn, linksOn, elementsOn, networkFile}
 use Rattle.file_network.specs.Inputs.{closed, networkInput}
 use Rattle.file_network.proofs.Runs.{run-ends}
@@ -27,21 +28,21 @@ use Rattle.file_network.proofs.Alike.{Moved, moved-by, moved-equal, ali
 -- the links and the end
 unfoldable pub linksLook : List ℕ → ℕ → Stage → Network → ℕ
 linksLook s at stage n =
-    lookThen (records s (n .elements) 0 (withLink s) (word s 6) at stage n) (looks s (n .elements) 0 (word s 6) at stage)
-    (λ after next net. looks s 0 0 1 after (afterLast next))
+    lookThen (records s networkSeen (withLink s) (word s 6) at stage n) (looks s networkSeen (withLink s) (word s 6) at stage n)
+    (λ after next net. looks s (always nothingSeen) asIs 1 after (afterLast next) net)
 
 -- so many elements from an offset on, then the links and the end: how they are read, and how far that looks
 unfoldable pub restOn : List ℕ → ℕ → ℕ → Stage → Network → Reading Network
 restOn s count at stage n =
-    readOn (records s 0 0 (withElement s) count at stage n) (λ after next net. linksOn s after (afterLast next) net)
+    readOn (records s (always nothingSeen) (withElement s) count at stage n) (λ after next net. linksOn s after (afterLast next) net)
 
 unfoldable pub restLooks : List ℕ → ℕ → ℕ → Stage → Network → ℕ
 restLooks s count at stage n =
-    lookThen (records s 0 0 (withElement s) count at stage n) (looks s 0 0 count at stage)
+    lookThen (records s (always nothingSeen) (withElement s) count at stage n) (looks s (always nothingSeen) (withElement s) count at stage n)
     (λ after next net. linksLook s after (afterLast next) net)
 
 unfoldable pub networkLooks : List ℕ → ℕ
-networkLooks s = lookThen (headRun s) (looks s 0 0 1 0 Head) (restLooks s (word s 4))
+networkLooks s = lookThen (headRun s) (looks s (always nothingSeen) asIs 1 0 Head emptyNetwork) (restLooks s (word s 4))
 
 -- with rule 13
 unfoldable pub networkInputLooks : List ℕ → ℕ
@@ -51,14 +52,14 @@ module _ (s : List ℕ) where
   pub links-looked : (at : ℕ) (stage : Stage) (n : Network) → Looked at (linksOn s at stage n) (linksLook s at stage n)
   unfolding linksOn linksLook endOn
   links-looked at stage n =
-      then-looked at _ _ (records s (n .elements) 0 (withLink s) (word s 6) at stage n) (λ p st m. endOn s p (afterLast st) m)
-      (run-looked s (n .elements) 0 (withLink s) (word s 6) at stage n) (λ p st m. run-looked s 0 0 asIs 1 p (afterLast st) m)
+      then-looked at _ _ (records s networkSeen (withLink s) (word s 6) at stage n) (λ p st m. endOn s p (afterLast st) m)
+      (run-looked s networkSeen (withLink s) (word s 6) at stage n) (λ p st m. run-looked s (always nothingSeen) asIs 1 p (afterLast st) m)
 
   pub rest-looked : (count at : ℕ) (stage : Stage) (n : Network) → Looked at (restOn s count at stage n) (restLooks s count at stage n)
   unfolding restOn restLooks
   rest-looked count at stage n =
-      then-looked at _ _ (records s 0 0 (withElement s) count at stage n) (λ p st m. linksOn s p (afterLast st) m)
-      (run-looked s 0 0 (withElement s) count at stage n) (λ p st m. links-looked p (afterLast st) m)
+      then-looked at _ _ (records s (always nothingSeen) (withElement s) count at stage n) (λ p st m. linksOn s p (afterLast st) m)
+      (run-looked s (always nothingSeen) (withElement s) count at stage n) (λ p st m. links-looked p (afterLast st) m)
 
   pub file-rest : networkFile s ≡ readOn (headRun s) (restOn s (word s 4))
   unfolding networkFile elementsOn restOn
@@ -68,34 +69,34 @@ module _ (s : List ℕ) where
   unfolding networkLooks
   network-looked =
       rw file-rest
-      (then-looked 0 _ _ (headRun s) (restOn s (word s 4)) (run-looked s 0 0 asIs 1 0 Head emptyNetwork) (rest-looked (word s 4)))
+      (then-looked 0 _ _ (headRun s) (restOn s (word s 4)) (run-looked s (always nothingSeen) asIs 1 0 Head emptyNetwork) (rest-looked (word s 4)))
 
   links-look-most : (at : ℕ) (n : Network) → linksLook s at Links n ≤ at + longest Links * word s 6 + longest End
   unfolding linksLook
   links-look-most at n =
-      look-most (looks s (n .elements) 0 (word s 6) at Links) (at + longest Links * word s 6 + longest End) (λ p st m. looks s 0 0 1 p (afterLast st))
-      (records s (n .elements) 0 (withLink s) (word s 6) at Links n)
-      (omega (arith, looks-most s (n .elements) 0 Links refl (omega arith) (word s 6) at))
+      look-most (looks s networkSeen (withLink s) (word s 6) at Links n) (at + longest Links * word s 6 + longest End) (λ p st m. looks s (always nothingSeen) asIs 1 p (afterLast st) m)
+      (records s networkSeen (withLink s) (word s 6) at Links n)
+      (omega (arith, looks-most s networkSeen (withLink s) Links refl (omega arith) (word s 6) at n))
       (λ p st m e.
-      let ends = run-ends s (n .elements) 0 (withLink s) (word s 6) at Links n p st m e refl in
-      rw (ends .1) (omega (arith, ends .0, looks-one s 0 0 p End (omega arith))))
+      let ends = run-ends s networkSeen (withLink s) (word s 6) at Links n p st m e refl in
+      rw (ends .1) (omega (arith, ends .0, looks-one s (always nothingSeen) asIs p End m (omega arith))))
 
   rest-look-most : (count at : ℕ) (n : Network)
       → restLooks s count at Elements n ≤ at + longest Elements * count + longest Links * word s 6 + longest End
   unfolding restLooks
   rest-look-most count at n =
-      look-most (looks s 0 0 count at Elements) (at + longest Elements * count + longest Links * word s 6 + longest End)
-      (λ p st m. linksLook s p (afterLast st) m) (records s 0 0 (withElement s) count at Elements n)
-      (omega (arith, looks-most s 0 0 Elements refl (omega arith) count at))
+      look-most (looks s (always nothingSeen) (withElement s) count at Elements n) (at + longest Elements * count + longest Links * word s 6 + longest End)
+      (λ p st m. linksLook s p (afterLast st) m) (records s (always nothingSeen) (withElement s) count at Elements n)
+      (omega (arith, looks-most s (always nothingSeen) (withElement s) Elements refl (omega arith) count at n))
       (λ p st m e.
-      let ends = run-ends s 0 0 (withElement s) count at Elements n p st m e refl in
+      let ends = run-ends s (always nothingSeen) (withElement s) count at Elements n p st m e refl in
       rw (ends .1) (omega (arith, ends .0, links-look-most p m)))
 
   -- a network file looks no further than its longest form, whether it is read or refused
   pub network-look-most : networkLooks s ≤ networkLongest
   unfolding networkLooks
   network-look-most =
-      look-most (looks s 0 0 1 0 Head) networkLongest (restLooks s (word s 4)) (headRun s) (omega (arith, looks-one s 0 0 0 Head (omega arith)))
+      look-most (looks s (always nothingSeen) asIs 1 0 Head emptyNetwork) networkLongest (restLooks s (word s 4)) (headRun s) (omega (arith, looks-one s (always nothingSeen) asIs 0 Head emptyNetwork (omega arith)))
       (λ p st m e.
       let before = head-read s p st m e in
       rw (before .stage-is)
@@ -126,21 +127,21 @@ module _ {s t : List ℕ} {at at′ upto kind long : ℕ} {next : Stage} (same :
 
 module _ (s t : List ℕ) (upto : ℕ) where
   element-alike : (at at′ : ℕ) (st : Stage) (kind long : ℕ) (next : Stage) (n m : Network)
-      → st ≡ Elements → Whole s 0 0 at st kind long next → SameFrom s t at at′ upto → at + long ≤ upto → n ≡ m → withElement s at n ≡ withElement t at′ m
+      → st ≡ Elements → Whole s nothingSeen at st kind long next → SameFrom s t at at′ upto → at + long ≤ upto → n ≡ m → withElement s at n ≡ withElement t at′ m
   unfolding withElement
   element-alike at at′ st kind long next n m p w same room r =
       ap₂ elementAdded r (element-same same room (subst (λ (x : Stage). Framed s at x kind long next) p (w .framed)))
 
-  link-alike : (elements at at′ : ℕ) (st : Stage) (kind long : ℕ) (next : Stage) (n m : Network)
-      → st ≡ Links → Whole s elements 0 at st kind long next → SameFrom s t at at′ upto → at + long ≤ upto → n ≡ m → withLink s at n ≡ withLink t at′ m
+  link-alike : (at at′ : ℕ) (st : Stage) (kind long : ℕ) (next : Stage) (n m : Network)
+      → st ≡ Links → Whole s (networkSeen n) at st kind long next → SameFrom s t at at′ upto → at + long ≤ upto → n ≡ m → withLink s at n ≡ withLink t at′ m
   unfolding withLink
-  link-alike elements at at′ st kind long next n m p w same room r =
+  link-alike at at′ st kind long next n m p w same room r =
       ap₂ linkAdded r (link-same same room (subst (λ (x : Stage). Framed s at x kind long next) p (w .framed)))
 
-  pub elements-alike : (count at at′ : ℕ) (n : Network) → SameFrom s t at at′ upto → looks s 0 0 count at Elements ≤ upto
-      → Moved _≡_ at at′ (records s 0 0 (withElement s) count at Elements n) (records t 0 0 (withElement t) count at′ Elements n)
+  pub elements-alike : (count at at′ : ℕ) (n : Network) → SameFrom s t at at′ upto → looks s (always nothingSeen) (withElement s) count at Elements n ≤ upto
+      → Moved _≡_ at at′ (records s (always nothingSeen) (withElement s) count at Elements n) (records t (always nothingSeen) (withElement t) count at′ Elements n)
   elements-alike count at at′ n same far =
-      alike _≡_ s t 0 0 (withElement s) (withElement t) upto (λ st. st ≡ Elements) (λ st p. ap nextAt p) element-alike count at at′ Elements n n refl same far refl
+      alike _≡_ s t (always nothingSeen) (always nothingSeen) (withElement s) (withElement t) upto (λ n m r. refl) (λ st. st ≡ Elements) (λ st p. ap nextAt p) element-alike count at at′ Elements n n refl same far refl
 
   -- the links and the end, behind heads that state as many links
   module _ (counts : word s 6 ≡ word t 6) where
@@ -148,40 +149,40 @@ module _ (s t : List ℕ) (upto : ℕ) where
         → Moved _≡_ at at′ (linksOn s at Links n) (linksOn t at′ Links n)
     unfolding linksOn linksLook endOn
     links-on-alike at at′ n same =
-        let run = run-looked s (n .elements) 0 (withLink s) (word s 6) at Links n in
-        then-alike at at′ upto (looks s (n .elements) 0 (word s 6) at Links) (λ p st m. looks s 0 0 1 p (afterLast st))
-        (records s (n .elements) 0 (withLink s) (word s 6) at Links n) (records t (n .elements) 0 (withLink t) (word t 6) at′ Links n)
+        let run = run-looked s networkSeen (withLink s) (word s 6) at Links n in
+        then-alike at at′ upto (looks s networkSeen (withLink s) (word s 6) at Links n) (λ p st m. looks s (always nothingSeen) asIs 1 p (afterLast st) m)
+        (records s networkSeen (withLink s) (word s 6) at Links n) (records t networkSeen (withLink t) (word t 6) at′ Links n)
         (λ p st m. endOn s p (afterLast st) m) (λ p st m. endOn t p (afterLast st) m)
         (λ far.
         rw (← counts)
-        (alike _≡_ s t (n .elements) 0 (withLink s) (withLink t) upto (λ st. st ≡ Links) (λ st p. ap nextAt p) (link-alike (n .elements)) (word s 6) at at′ Links n n
+        (alike _≡_ s t networkSeen networkSeen (withLink s) (withLink t) upto (λ n m r. ap networkSeen r) (λ st. st ≡ Links) (λ st p. ap nextAt p) link-alike (word s 6) at at′ Links n n
         refl same far refl))
-        (λ p st m e. omega (arith, run .ends p st m e, run-looked s 0 0 asIs 1 p (afterLast st) m .from))
-        (λ i st m e far. one-alike s t upto 0 0 (at + i) (at′ + i) (afterLast st) m (same-on same i) far)
+        (λ p st m e. omega (arith, run .ends p st m e, run-looked s (always nothingSeen) asIs 1 p (afterLast st) m .from))
+        (λ i st m e far. one-alike s t upto (always nothingSeen) (at + i) (at′ + i) (afterLast st) m (same-on same i) far)
 
     -- and so many elements before them
     pub rest-on-alike : (count at at′ : ℕ) (n : Network) → SameFrom s t at at′ upto → restLooks s count at Elements n ≤ upto
         → Moved _≡_ at at′ (restOn s count at Elements n) (restOn t count at′ Elements n)
     unfolding restOn restLooks
     rest-on-alike count at at′ n same =
-        let run = run-looked s 0 0 (withElement s) count at Elements n in
-        then-alike at at′ upto (looks s 0 0 count at Elements) (λ p st m. linksLook s p (afterLast st) m)
-        (records s 0 0 (withElement s) count at Elements n) (records t 0 0 (withElement t) count at′ Elements n)
+        let run = run-looked s (always nothingSeen) (withElement s) count at Elements n in
+        then-alike at at′ upto (looks s (always nothingSeen) (withElement s) count at Elements n) (λ p st m. linksLook s p (afterLast st) m)
+        (records s (always nothingSeen) (withElement s) count at Elements n) (records t (always nothingSeen) (withElement t) count at′ Elements n)
         (λ p st m. linksOn s p (afterLast st) m) (λ p st m. linksOn t p (afterLast st) m)
         (elements-alike count at at′ n same)
         (λ p st m e. omega (arith, run .ends p st m e, links-looked s p (afterLast st) m .from))
         (λ i st m e far.
-        let ends = run-ends s 0 0 (withElement s) count at Elements n (at + i) st m e refl in
+        let ends = run-ends s (always nothingSeen) (withElement s) count at Elements n (at + i) st m e refl in
         rw (ends .1) (links-on-alike (at + i) (at′ + i) m (same-on same i) (rw (ends .1) at far)))
 
   -- the network file, and the input with it
   pub network-moved : SameFrom s t 0 0 upto → networkLooks s ≤ upto → Moved _≡_ 0 0 (networkFile s) (networkFile t)
   unfolding networkLooks
   network-moved same far =
-      let run = run-looked s 0 0 asIs 1 0 Head emptyNetwork in
+      let run = run-looked s (always nothingSeen) asIs 1 0 Head emptyNetwork in
       moved-by (file-rest s) (file-rest t)
-      (then-alike 0 0 upto (looks s 0 0 1 0 Head) (restLooks s (word s 4)) (headRun s) (headRun t) (restOn s (word s 4)) (restOn t (word t 4))
-      (one-alike s t upto 0 0 0 0 Head emptyNetwork same)
+      (then-alike 0 0 upto (looks s (always nothingSeen) asIs 1 0 Head emptyNetwork) (restLooks s (word s 4)) (headRun s) (headRun t) (restOn s (word s 4)) (restOn t (word t 4))
+      (one-alike s t upto (always nothingSeen) 0 0 Head emptyNetwork same)
       (λ p st m e. omega (arith, run .ends p st m e, rest-looked s (word s 4) p st m .from))
       (λ i st m e seen.
       let before = head-read s (0 + i) st m e in

@@ -6,6 +6,7 @@ use Prim.Native.Nat.{ℕ, _+_, _-_, _<_, _≤_}
 use native.Mathlib.Omega.{arith}
 use Rattle.network.specs.declared.refusal.Refusal.{Refusal}
 use Rattle.file_stages.specs.declared.Stage.{Stage}
+use Rattle.file_fields.specs.declared.Seen.{Seen}
 use Rattle.file_records.specs.declared.Found.{Found}
 use Rattle.file_records.specs.declared.Found.the-variants.{Record, Refused as Found·Refused}
 use Rattle.file_network.specs.declared.reader.Reached.{Reached}
@@ -76,18 +77,18 @@ module _ {B : Type 0} (o : Reading Network) (f : ℕ → Stage → Network → R
   network-reached at stage = wrapped-reached emptyNetwork networkPart (λ p. p .reached) (λ p. p .net) network-how network-what o f x at stage
 
 -- a loop over records keeps "what is left to read gives the whole outcome"
-module _ {A : Type 0} (s : List ℕ) (elements links : ℕ) (into : ℕ → A → A) (o : Reading A) (left at : ℕ) (stage : Stage) (a : A)
-    (inv : records s elements links into left at stage a ≡ o) where
+module _ {A : Type 0} (s : List ℕ) (seen : A → Seen) (into : ℕ → A → A) (o : Reading A) (left at : ℕ) (stage : Stage) (a : A)
+    (inv : records s seen into left at stage a ≡ o) where
   pub run-done : left ≤ 0 → reached at stage a ≡ o
-  run-done h = let z : left ≡ 0 = omega arith in sym (records-none s elements links into at stage a) ∙ rw z at inv
+  run-done h = let z : left ≡ 0 = omega arith in sym (records-none s seen into at stage a) ∙ rw z at inv
 
-  module _ (found : Found) (some : 0 < left) (due : found ≡ dueAt s elements links at stage) where
+  module _ (found : Found) (some : 0 < left) (due : found ≡ dueAt s (seen a) at stage) where
     pub run-refused : (r : Refusal) → found ≡ Found·Refused r → refused r ≡ o
-    run-refused r h = sym (records-refused s elements links into left at stage a r some (sym due ∙ h)) ∙ inv
+    run-refused r h = sym (records-refused s seen into left at stage a r some (sym due ∙ h)) ∙ inv
 
-    pub run-turn : (kind long : ℕ) (next : Stage) → found ≡ Record kind long next → records s elements links into (left - 1) (at + long) next
+    pub run-turn : (kind long : ℕ) (next : Stage) → found ≡ Record kind long next → records s seen into (left - 1) (at + long) next
         (into at a) ≡ o
-    run-turn kind long next h = sym (records-more s elements links into left at stage a kind long next some (sym due ∙ h)) ∙ inv
+    run-turn kind long next h = sym (records-more s seen into left at stage a kind long next some (sym due ∙ h)) ∙ inv
 
 -- a record found at a known stage: it fits, it is as long as the shortest there, and the stage gives what comes next
 pub record Turn (s : List ℕ) (at : ℕ) (known : Stage) (long : ℕ) (next : Stage) : Type 0 where
@@ -96,12 +97,12 @@ pub record Turn (s : List ℕ) (at : ℕ) (known : Stage) (long : ℕ) (next : S
   pub next-is : next ≡ nextAt known
 
 pub turn-whole :
-    (s : List ℕ) (elements links at : ℕ) (stage known : Stage) (found : Found) (kind long : ℕ) (next : Stage) →
-    found ≡ dueAt s elements links at stage →
+    (s : List ℕ) (seen : Seen) (at : ℕ) (stage known : Stage) (found : Found) (kind long : ℕ) (next : Stage) →
+    found ≡ dueAt s seen at stage →
     stage ≡ known →
     found ≡ Record kind long next →
     Turn s at known long next
-turn-whole s elements links at stage known found kind long next due e h =
-    let here : dueAt s elements links at known ≡ Record kind long next = rw e at (sym due ∙ h) in
-    let f = due-kept s elements links at known here .framed in
+turn-whole s seen at stage known found kind long next due e h =
+    let here : dueAt s seen at known ≡ Record kind long next = rw e at (sym due ∙ h) in
+    let f = due-kept s seen at known here .framed in
     record { enough = omega (arith, f .enough, f .fits); fits = f .fits; next-is = f .next-at }

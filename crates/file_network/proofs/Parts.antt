@@ -16,8 +16,9 @@ use Rattle.file_stages.specs.declared.Stage.the-variants.{Head}
 use Rattle.network.specs.declared.Network.{Network}
 use Rattle.file_stages.specs.Stages.{afterLast}
 use Rattle.file_fields.specs.Fields.{word}
+use Rattle.file_fields.specs.Views.{nothingSeen, networkSeen}
 use Rattle.network.specs.Networks.{emptyNetwork}
-use Rattle.file_network.specs.Runs.{Reading, refused, reached, readOn, records, asIs}
+use Rattle.file_network.specs.Runs.{Reading, refused, reached, readOn, records, always, asIs}
 use Rattle.file_network.specs.NetworkFiles.{withElement, withLink, networkFile, elementsOn, linksOn, endOn}
 use Rattle.file_network.specs.Inputs.{closed}
 
@@ -91,16 +92,16 @@ closed-reached s (reached at stage b) end last a h = go (ltb at (length s)) refl
 
 module _ (s : List ℕ) where
   abbrev pub headRun : Reading Network
-  headRun = records s 0 0 asIs 1 0 Head emptyNetwork
+  headRun = records s (always nothingSeen) asIs 1 0 Head emptyNetwork
 
   abbrev pub elementsRun : ℕ → Stage → Network → Reading Network
-  elementsRun at stage n = records s 0 0 (withElement s) (word s 4) at stage n
+  elementsRun at stage n = records s (always nothingSeen) (withElement s) (word s 4) at stage n
 
   abbrev pub linksRun : ℕ → Stage → Network → Reading Network
-  linksRun at stage n = records s (n .elements) 0 (withLink s) (word s 6) at (afterLast stage) n
+  linksRun at stage n = records s networkSeen (withLink s) (word s 6) at (afterLast stage) n
 
   abbrev pub endRun : ℕ → Stage → Network → Reading Network
-  endRun at stage n = records s 0 0 asIs 1 at (afterLast stage) n
+  endRun at stage n = records s (always nothingSeen) asIs 1 at (afterLast stage) n
 
   abbrev pub withElements : Reading Network
   withElements = readOn headRun elementsRun

@@ -7,40 +7,41 @@ use native.Mathlib.Nat.{not-suc-le-zero, mul-suc, mul-zero}
 use native.Mathlib.Omega.{arith}
 use Rattle.network.specs.declared.refusal.Refusal.{Refusal}
 use Rattle.file_stages.specs.declared.Stage.{Stage}
+use Rattle.file_fields.specs.declared.Seen.{Seen}
 use Rattle.file_records.specs.declared.Found.{Found}
 use Rattle.file_records.specs.declared.Found.the-variants.{Record, Refused}
 use Rattle.file_records.specs.Records.{dueAt}
 use Rattle.file_network.specs.Runs.{refused, reached, onFound, records}
 use Rattle.file_records.proofs.Due.{Whole, nextAt, longest, due-kept}
 
-module _ {A : Type 0} (s : List ℕ) (elements links : ℕ) (into : ℕ → A → A) where
-  pub records-none : (at : ℕ) (stage : Stage) (a : A) → records s elements links into 0 at stage a ≡ reached at stage a
+module _ {A : Type 0} (s : List ℕ) (seen : A → Seen) (into : ℕ → A → A) where
+  pub records-none : (at : ℕ) (stage : Stage) (a : A) → records s seen into 0 at stage a ≡ reached at stage a
   unfolding records
   records-none at stage a = refl
 
   pub records-refused :
       (n at : ℕ) (stage : Stage) (a : A) (r : Refusal) →
       0 < n →
-      dueAt s elements links at stage ≡ Refused r →
-      records s elements links into n at stage a ≡ refused r
+      dueAt s (seen a) at stage ≡ Refused r →
+      records s seen into n at stage a ≡ refused r
   unfolding records
   records-refused zero at stage a r h e = absurd (not-suc-le-zero h)
   records-refused (suc n) at stage a r h e =
-      ap (λ (f : Found). onFound f (λ long next. records s elements links into n (at + long) next (into at a))) e
+      ap (λ (f : Found). onFound f (λ long next. records s seen into n (at + long) next (into at a))) e
 
   pub records-suc :
       (n at : ℕ) (stage : Stage) (a : A) (kind long : ℕ) (next : Stage) →
-      dueAt s elements links at stage ≡ Record kind long next →
-      records s elements links into (suc n) at stage a ≡ records s elements links into n (at + long) next (into at a)
+      dueAt s (seen a) at stage ≡ Record kind long next →
+      records s seen into (suc n) at stage a ≡ records s seen into n (at + long) next (into at a)
   unfolding records
   records-suc n at stage a kind long next e =
-      ap (λ (f : Found). onFound f (λ long next. records s elements links into n (at + long) next (into at a))) e
+      ap (λ (f : Found). onFound f (λ long next. records s seen into n (at + long) next (into at a))) e
 
   pub records-more :
       (n at : ℕ) (stage : Stage) (a : A) (kind long : ℕ) (next : Stage) →
       0 < n →
-      dueAt s elements links at stage ≡ Record kind long next →
-      records s elements links into n at stage a ≡ records s elements links into (n - 1) (at + long) next (into at a)
+      dueAt s (seen a) at stage ≡ Record kind long next →
+      records s seen into n at stage a ≡ records s seen into (n - 1) (at + long) next (into at a)
   records-more zero at stage a kind long next h e = absurd (not-suc-le-zero h)
   records-more (suc n) at stage a kind long next h e =
       let less : suc n - 1 ≡ n = omega arith in
@@ -49,9 +50,9 @@ module _ {A : Type 0} (s : List ℕ) (elements links : ℕ) (into : ℕ → A �
   -- one record more, behind a run
   pub records-behind :
       (n at : ℕ) (stage : Stage) (a : A) (at' : ℕ) (stage' : Stage) (a' : A) (kind long : ℕ) (next : Stage) →
-      records s elements links into n at stage a ≡ reached at' stage' a' →
-      dueAt s elements links at' stage' ≡ Record kind long next →
-      records s elements links into (suc n) at stage a ≡ reached (at' + long) next (into at' a')
+      records s seen into n at stage a ≡ reached at' stage' a' →
+      dueAt s (seen a') at' stage' ≡ Record kind long next →
+      records s seen into (suc n) at stage a ≡ reached (at' + long) next (into at' a')
   records-behind zero at stage a at' stage' a' kind long next e d =
       let q = sym (records-none at stage a) ∙ e in
       let at-is : at ≡ at' = cc in
@@ -60,15 +61,15 @@ module _ {A : Type 0} (s : List ℕ) (elements links : ℕ) (into : ℕ → A �
       rw (at-is, stage-is, a-is)
       (records-suc 0 at' stage' a' kind long next d ∙ records-none (at' + long) next (into at' a'))
   records-behind (suc n) at stage a at' stage' a' kind long next e d =
-      go (dueAt s elements links at stage) refl
+      go (dueAt s (seen a) at stage) refl
       (λ at'' stage'' a'' e'. records-behind n at'' stage'' a'' at' stage' a' kind long next e' d)
     where
       go : (f : Found) →
-          dueAt s elements links at stage ≡ f →
+          dueAt s (seen a) at stage ≡ f →
           ((at'' : ℕ) (stage'' : Stage) (a'' : A) →
-          records s elements links into n at'' stage'' a'' ≡ reached at' stage' a' →
-          records s elements links into (suc n) at'' stage'' a'' ≡ reached (at' + long) next (into at' a')) →
-          records s elements links into (suc (suc n)) at stage a ≡ reached (at' + long) next (into at' a')
+          records s seen into n at'' stage'' a'' ≡ reached at' stage' a' →
+          records s seen into (suc n) at'' stage'' a'' ≡ reached (at' + long) next (into at' a')) →
+          records s seen into (suc (suc n)) at stage a ≡ reached (at' + long) next (into at' a')
       go (Record kind' long' next') d' rest =
           records-suc (suc n) at stage a kind' long' next' d' ∙
           rest (at + long') next' (into at a) (sym (records-suc n at stage a kind' long' next' d') ∙ e)
@@ -81,10 +82,10 @@ module _ {A : Type 0} (s : List ℕ) (elements links : ℕ) (into : ℕ → A �
   pub records-keep :
       (P : ℕ → ℕ → Stage → A → Type 0) →
       ((n at : ℕ) (stage : Stage) (a : A) (kind long : ℕ) (next : Stage) →
-      dueAt s elements links at stage ≡ Record kind long next → P (suc n) at stage a → P n (at + long) next (into at a)) →
+      dueAt s (seen a) at stage ≡ Record kind long next → P (suc n) at stage a → P n (at + long) next (into at a)) →
       (n at : ℕ) (stage : Stage) (a : A) (end : ℕ) (last : Stage) (b : A) →
       P n at stage a →
-      records s elements links into n at stage a ≡ reached end last b →
+      records s seen into n at stage a ≡ reached end last b →
       P 0 end last b
   records-keep P step zero at stage a end last b p e =
       let q = sym (records-none at stage a) ∙ e in
@@ -93,11 +94,11 @@ module _ {A : Type 0} (s : List ℕ) (elements links : ℕ) (into : ℕ → A �
       let a-end : a ≡ b = cc in
       rw (at-end, st-end, a-end) at p
   records-keep P step (suc n) at stage a end last b p e =
-      go (dueAt s elements links at stage) refl (λ at' stage' a'. records-keep P step n at' stage' a' end last b)
+      go (dueAt s (seen a) at stage) refl (λ at' stage' a'. records-keep P step n at' stage' a' end last b)
     where
       go : (f : Found) →
-          dueAt s elements links at stage ≡ f →
-          ((at' : ℕ) (stage' : Stage) (a' : A) → P n at' stage' a' → records s elements links into n at' stage' a' ≡ reached end last b → P 0 end last
+          dueAt s (seen a) at stage ≡ f →
+          ((at' : ℕ) (stage' : Stage) (a' : A) → P n at' stage' a' → records s seen into n at' stage' a' ≡ reached end last b → P 0 end last
           b) →
           P 0 end last b
       go (Record kind long next) d rest =
@@ -112,20 +113,20 @@ module _ {A : Type 0} (s : List ℕ) (elements links : ℕ) (into : ℕ → A �
   pub record Nth (at : ℕ) (stage : Stage) (a : A) (j : ℕ) : Type 0 where
     pub place : ℕ
     pub value : A
-    pub before : records s elements links into j at stage a ≡ reached place stage value
+    pub before : records s seen into j at stage a ≡ reached place stage value
     pub kind : ℕ
     pub long : ℕ
-    pub whole : Whole s elements links place stage kind long stage
+    pub whole : Whole s (seen value) place stage kind long stage
 
   -- so many records of a stage are read, so many are left
   record SoFar (done n at : ℕ) (stage : Stage) (a : A) (left at' : ℕ) (stage' : Stage) (a' : A) : Type 0 where
     pub counted : done + left ≡ n
-    pub before : records s elements links into done at stage a ≡ reached at' stage a'
+    pub before : records s seen into done at stage a ≡ reached at' stage a'
     pub at-most : at' ≤ at + longest stage * done
     pub stage-is : stage' ≡ stage
 
   module _ (n at : ℕ) (stage : Stage) (a : A) (end : ℕ) (last : Stage) (b : A)
-      (run : records s elements links into n at stage a ≡ reached end last b) where
+      (run : records s seen into n at stage a ≡ reached end last b) where
     -- what no record changes, and what each record counts
     pub run-same : {B : Type 0} (f : A → B) → ((at : ℕ) (a : A) → f (into at a) ≡ f a) → f b ≡ f a
     run-same f same =
@@ -162,14 +163,14 @@ module _ {A : Type 0} (s : List ℕ) (elements links : ℕ) (into : ℕ → A �
           (ends, r .1 .stage-is, rw all at (r .2))
         where
           step : (left at' : ℕ) (stage' : Stage) (a' : A) (kind long : ℕ) (next : Stage) →
-              dueAt s elements links at' stage' ≡ Record kind long next →
+              dueAt s (seen a') at' stage' ≡ Record kind long next →
               (done : ℕ) →
               SoFar done n at stage a (suc left) at' stage' a' →
               I done a' →
               (done : ℕ) × SoFar done n at stage a left (at' + long) next (into at' a') × I done (into at' a')
           step left at' stage' a' kind long next d done p old =
-              let here : dueAt s elements links at' stage ≡ Record kind long next = rw (p .stage-is) at d in
-              let w = due-kept s elements links at' stage here in
+              let here : dueAt s (seen a') at' stage ≡ Record kind long next = rw (p .stage-is) at d in
+              let w = due-kept s (seen a') at' stage here in
               let next-is : next ≡ stage = w .framed .next-at ∙ back in (
                 suc done,
                 record {
@@ -197,20 +198,20 @@ module _ {A : Type 0} (s : List ℕ) (elements links : ℕ) (into : ℕ → A �
   pub record One (at : ℕ) (stage : Stage) (a : A) (end : ℕ) (last : Stage) (b : A) : Type 0 where
     pub kind : ℕ
     pub long : ℕ
-    pub whole : Whole s elements links at stage kind long last
+    pub whole : Whole s (seen a) at stage kind long last
     pub ends : end ≡ at + long
     pub last-is : last ≡ nextAt stage
     pub value-is : b ≡ into at a
 
   pub one-record :
       (at : ℕ) (stage : Stage) (a : A) (end : ℕ) (last : Stage) (b : A) →
-      records s elements links into 1 at stage a ≡ reached end last b →
+      records s seen into 1 at stage a ≡ reached end last b →
       One at stage a end last b
-  one-record at stage a end last b run = go (dueAt s elements links at stage) refl
+  one-record at stage a end last b run = go (dueAt s (seen a) at stage) refl
     where
-      go : (f : Found) → dueAt s elements links at stage ≡ f → One at stage a end last b
+      go : (f : Found) → dueAt s (seen a) at stage ≡ f → One at stage a end last b
       go (Record kind long next) d =
-          let w = due-kept s elements links at stage d in
+          let w = due-kept s (seen a) at stage d in
           let only = records-suc 0 at stage a kind long next d ∙ records-none (at + long) next (into at a) in
           let next-is : next ≡ last = cc in
           record {

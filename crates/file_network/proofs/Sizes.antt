@@ -9,8 +9,9 @@ use Rattle.file_stages.specs.declared.Stage.{Stage}
 use Rattle.file_stages.specs.declared.Stage.the-variants.{Head, Elements, Links, End, PlanHead}
 use Rattle.network.specs.declared.Network.{Network}
 use Rattle.file_fields.specs.Fields.{word}
+use Rattle.file_fields.specs.Views.{nothingSeen, networkSeen}
 use Rattle.network.specs.Networks.{emptyNetwork}
-use Rattle.file_network.specs.Runs.{reached, records, asIs}
+use Rattle.file_network.specs.Runs.{reached, records, always, asIs}
 use Rattle.file_network.specs.NetworkFiles.{withElement, withLink, networkFile}
 use Rattle.file_network.specs.Inputs.{networkInput}
 use Rattle.file_records.proofs.Due.{longest, head-kept}
@@ -33,7 +34,7 @@ pub record HeadRead (s : List ℕ) (at : ℕ) (stage : Stage) (n : Network) : Ty
 
 pub head-read : (s : List ℕ) (at : ℕ) (stage : Stage) (n : Network) → headRun s ≡ reached at stage n → HeadRead s at stage n
 head-read s at stage n h =
-    let one = one-record s 0 0 asIs 0 Head emptyNetwork at stage n h in
+    let one = one-record s (always nothingSeen) asIs 0 Head emptyNetwork at stage n h in
     let kept = head-kept (one .whole) in
     record {
       counts = record { some = kept .some; elements-fit = kept .elements-fit; links-fit = kept .links-fit };
@@ -48,7 +49,7 @@ pub record ElementsRead (s : List ℕ) (at : ℕ) (stage : Stage) (n : Network) 
   pub stage-is : stage ≡ Elements
   pub elements-are : n .elements ≡ word s 4
   pub links-are : n .links ≡ 0
-  pub run : records s 0 0 (withElement s) (word s 4) 8 Elements emptyNetwork ≡ reached at stage n
+  pub run : records s (always nothingSeen) (withElement s) (word s 4) 8 Elements emptyNetwork ≡ reached at stage n
 
 pub elements-read :
     (s : List ℕ) (at : ℕ) (stage : Stage) (n : Network) → withElements s ≡ reached at stage n → ElementsRead s at stage n
@@ -56,17 +57,17 @@ unfolding withElement emptyNetwork
 elements-read s at stage n h =
     let b = then-reached (elementsRun s) (headRun s) at stage n h in
     let before = head-read s (b .at) (b .stage) (b .value) (b .first) in
-    let run : records s 0 0 (withElement s) (word s 4) 8 Elements emptyNetwork ≡ reached at stage n =
+    let run : records s (always nothingSeen) (withElement s) (word s 4) 8 Elements emptyNetwork ≡ reached at stage n =
     rw (before .ends, before .stage-is, before .value-is) at (b .then)
     in
-    let ends = run-ends s 0 0 (withElement s) (word s 4) 8 Elements emptyNetwork at stage n run refl in
-    let count = run-count s 0 0 (withElement s) (word s 4) 8 Elements emptyNetwork at stage n run (λ n. n .elements) (λ at n. refl) in
+    let ends = run-ends s (always nothingSeen) (withElement s) (word s 4) 8 Elements emptyNetwork at stage n run refl in
+    let count = run-count s (always nothingSeen) (withElement s) (word s 4) 8 Elements emptyNetwork at stage n run (λ n. n .elements) (λ at n. refl) in
     record {
       counts = before .counts;
       at-most = ends .0;
       stage-is = ends .1;
       elements-are = omega arith;
-      links-are = run-same s 0 0 (withElement s) (word s 4) 8 Elements emptyNetwork at stage n run (λ n. n .links) (λ at n. refl);
+      links-are = run-same s (always nothingSeen) (withElement s) (word s 4) 8 Elements emptyNetwork at stage n run (λ n. n .links) (λ at n. refl);
       run = run;
     }
 
@@ -78,19 +79,19 @@ pub record LinksRead (s : List ℕ) (at : ℕ) (stage : Stage) (n : Network) : T
   pub stage-is : stage ≡ Links
   pub elements-are : n .elements ≡ word s 4
   pub links-are : n .links ≡ word s 6
-  pub run : records s (word s 4) 0 (withLink s) (word s 6) start Links before ≡ reached at stage n
+  pub run : records s networkSeen (withLink s) (word s 6) start Links before ≡ reached at stage n
 
 pub links-read : (s : List ℕ) (at : ℕ) (stage : Stage) (n : Network) → withLinks s ≡ reached at stage n → LinksRead s at stage n
 unfolding withLink
 links-read s at stage n h =
     let b = then-reached (linksRun s) (withElements s) at stage n h in
     let before = elements-read s (b .at) (b .stage) (b .value) (b .first) in
-    let run : records s (word s 4) 0 (withLink s) (word s 6) (b .at) Links (b .value) ≡ reached at stage n =
-    rw (before .stage-is, before .elements-are) at (b .then)
+    let run : records s networkSeen (withLink s) (word s 6) (b .at) Links (b .value) ≡ reached at stage n =
+    rw (before .stage-is) at (b .then)
     in
-    let ends = run-ends s (word s 4) 0 (withLink s) (word s 6) (b .at) Links (b .value) at stage n run refl in
-    let count = run-count s (word s 4) 0 (withLink s) (word s 6) (b .at) Links (b .value) at stage n run (λ n. n .links) (λ at n. refl) in
-    let same = run-same s (word s 4) 0 (withLink s) (word s 6) (b .at) Links (b .value) at stage n run (λ n. n .elements) (λ at n. refl) in
+    let ends = run-ends s networkSeen (withLink s) (word s 6) (b .at) Links (b .value) at stage n run refl in
+    let count = run-count s networkSeen (withLink s) (word s 6) (b .at) Links (b .value) at stage n run (λ n. n .links) (λ at n. refl) in
+    let same = run-same s networkSeen (withLink s) (word s 6) (b .at) Links (b .value) at stage n run (λ n. n .elements) (λ at n. refl) in
     record {
       start = b .at;
       before = b .value;
@@ -119,8 +120,8 @@ pub network-size : (s : List ℕ) (at : ℕ) (stage : Stage) (n : Network) → n
 network-size s at stage n h =
     let b = then-reached (endRun s) (withLinks s) at stage n (sym (network-chain s) ∙ h) in
     let before = links-read s (b .at) (b .stage) (b .value) (b .first) in
-    let run : records s 0 0 asIs 1 (b .at) End (b .value) ≡ reached at stage n = rw (before .stage-is) at (b .then) in
-    let one = one-record s 0 0 asIs (b .at) End (b .value) at stage n run in
+    let run : records s (always nothingSeen) asIs 1 (b .at) End (b .value) ≡ reached at stage n = rw (before .stage-is) at (b .then) in
+    let one = one-record s (always nothingSeen) asIs (b .at) End (b .value) at stage n run in
     let net : b .value ≡ n = sym (one .value-is) in
     let all : LinksRead s (b .at) Links n = rw (before .stage-is, net) at before in
     let counts = all .elements .counts in

@@ -10,8 +10,9 @@ use Rattle.file_stages.specs.declared.Stage.{Stage}
 use Rattle.file_stages.specs.declared.Stage.the-variants.{Head}
 use Rattle.network.specs.Networks.{emptyNetwork, elementAdded, linkAdded}
 use Rattle.file_fields.specs.Fields.{word}
+use Rattle.file_fields.specs.Views.{nothingSeen, networkSeen}
 use Rattle.file_stages.specs.Stages.{afterLast}
-use Rattle.file_network.specs.Runs.{Reading, readOn, records, asIs}
+use Rattle.file_network.specs.Runs.{Reading, readOn, records, always, asIs}
 
 -- Kind 2: own load, capacity, flags
 unfoldable pub elementOf : List ℕ → ℕ → Element
@@ -29,17 +30,17 @@ withLink s at n = linkAdded n (linkOf s at)
 
 -- "A network file is one head, E elements, K links, one end." The head stands at offset 0: E is the number at 4, K the one at 6.
 unfoldable pub endOn : List ℕ → ℕ → Stage → Network → Reading Network
-endOn s at stage n = records s 0 0 asIs 1 at stage n
+endOn s at stage n = records s (always nothingSeen) asIs 1 at stage n
 
 unfoldable pub linksOn : List ℕ → ℕ → Stage → Network → Reading Network
 linksOn s at stage n =
-    readOn (records s (n .elements) 0 (withLink s) (word s 6) at stage n)
+    readOn (records s networkSeen (withLink s) (word s 6) at stage n)
     (λ after next net. endOn s after (afterLast next) net)
 
 unfoldable pub elementsOn : List ℕ → ℕ → Stage → Network → Reading Network
 elementsOn s at stage n =
-    readOn (records s 0 0 (withElement s) (word s 4) at stage n)
+    readOn (records s (always nothingSeen) (withElement s) (word s 4) at stage n)
     (λ after next net. linksOn s after (afterLast next) net)
 
 unfoldable pub networkFile : List ℕ → Reading Network
-networkFile s = readOn (records s 0 0 asIs 1 0 Head emptyNetwork) (elementsOn s)
+networkFile s = readOn (records s (always nothingSeen) asIs 1 0 Head emptyNetwork) (elementsOn s)

@@ -3,6 +3,7 @@
 -- Assumes nothing.
 use mathlib.Core.List.{List}
 use Prim.Native.Nat.{ℕ, zero, suc, _+_}
+use Rattle.file_fields.specs.declared.Seen.{Seen}
 use Rattle.file_records.specs.declared.Found.{Found}
 use Rattle.file_records.specs.declared.Found.the-variants.{Record, Refused as Found·Refused}
 use Rattle.network.specs.declared.refusal.Refusal.{Refusal}
@@ -23,12 +24,16 @@ onFound (Record kind long next) f = f long next
 onFound (Found·Refused r) f = refused r
 
 -- "Records are read from the front, rules 1 to 12 within each record": so many records from an offset and a stage on, each
--- taken in by `into` where it breaks no rule
-unfoldable pub records : {A : Type 0} (s : List ℕ) (elements links : ℕ) (into : ℕ → A → A) → ℕ → ℕ → Stage → A → Reading A
-records s elements links into zero at stage a = reached at stage a
-records s elements links into (suc count) at stage a =
-    onFound (dueAt s elements links at stage)
-    (λ long next. records s elements links into count (at + long) next (into at a))
+-- taken in by `into` where it breaks no rule; `seen` is what its rules may ask of what was read before it
+unfoldable pub records : {A : Type 0} (s : List ℕ) (seen : A → Seen) (into : ℕ → A → A) → ℕ → ℕ → Stage → A → Reading A
+records s seen into zero at stage a = reached at stage a
+records s seen into (suc count) at stage a =
+    onFound (dueAt s (seen a) at stage)
+    (λ long next. records s seen into count (at + long) next (into at a))
+
+-- one view for all records of a run
+abbrev pub always : {A : Type 0} → Seen → A → Seen
+always seen a = seen
 
 -- a head or an end record, of which nothing is kept
 abbrev pub asIs : {A : Type 0} → ℕ → A → A

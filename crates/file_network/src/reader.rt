@@ -1,4 +1,5 @@
 // The network file: one head, its elements, its links, one end.
+use file_fields::Seen;
 use file_fields::word_at;
 use file_reader::record_due;
 use file_records::Found;
@@ -12,8 +13,9 @@ ghost use mathlib.Core.Path.{_≡_};
 ghost use Prim.Native.Nat.{_+_, _<_, _≤_};
 ghost use lib.ListN.{length};
 ghost use Rattle.file_fields.specs.Fields.{word};
+ghost use Rattle.file_fields.specs.Views.{nothingSeen, networkSeen};
 ghost use Rattle.network.specs.Networks.{emptyNetwork};
-ghost use Rattle.file_network.specs.Runs.{records, refused};
+ghost use Rattle.file_network.specs.Runs.{records, always, refused};
 ghost use Rattle.file_network.specs.NetworkFiles.{elementOf, linkOf, withElement, withLink, networkFile, elementsOn, linksOn, endOn};
 ghost use Rattle.file_network.specs.Inputs.{networkPart};
 ghost use Rattle.file_stages.specs.declared.Stage.{Stage};
@@ -76,14 +78,14 @@ fn link_at(s: &[u8], at: usize) -> Link
 // So many element records from an offset on.
 fn read_elements(s: &[u8], count: usize, start: usize, first: Stage) -> NetworkPart
     requires { ⌜ (count ≤ 64) × (first ≡ Elements) ⌝ }
-    ensures { λ r. ⌜ r ≡ networkPart (records (now (s .entry)) 0 0 (withElement (now (s .entry))) count start first emptyNetwork) ⌝ }
+    ensures { λ r. ⌜ r ≡ networkPart (records (now (s .entry)) (always nothingSeen) (withElement (now (s .entry))) count start first emptyNetwork) ⌝ }
 {
     let mut net = Network::empty();
     let mut at = start;
     let mut stage = first;
     let mut left = count;
     while 0 < left {
-        let found = record_due(s, at, stage, 0, 0);
+        let found = record_due(s, at, stage, Seen::NOTHING);
         match found {
             Found::Refused(refusal) => {
                 return refused_network(refusal);
@@ -114,7 +116,7 @@ fn read_elements(s: &[u8], count: usize, start: usize, first: Stage) -> NetworkP
 // So many link records from an offset on, after the elements.
 fn read_links(s: &[u8], count: usize, start: usize, first: Stage, elements: Network) -> NetworkPart
     requires { ⌜ (elements .links + count ≤ 96) × (first ≡ Links) ⌝ }
-    ensures { λ r. ⌜ r ≡ networkPart (records (now (s .entry)) (elements .elements) 0 (withLink (now (s .entry))) count start first elements) ⌝ }
+    ensures { λ r. ⌜ r ≡ networkPart (records (now (s .entry)) networkSeen (withLink (now (s .entry))) count start first elements) ⌝ }
 {
     let e = elements.elements;
     let mut net = elements;
@@ -122,7 +124,11 @@ fn read_links(s: &[u8], count: usize, start: usize, first: Stage, elements: Netw
     let mut stage = first;
     let mut left = count;
     while 0 < left {
-        let found = record_due(s, at, stage, e, 0);
+        let seen = Seen {
+            elements: e,
+            links: net.links,
+        };
+        let found = record_due(s, at, stage, seen);
         match found {
             Found::Refused(refusal) => {
                 return refused_network(refusal);
@@ -154,7 +160,7 @@ fn read_links(s: &[u8], count: usize, start: usize, first: Stage, elements: Netw
 fn end_on(s: &[u8], at: usize, stage: Stage, net: Network) -> NetworkPart
     ensures { λ r. ⌜ r ≡ networkPart (endOn (now (s .entry)) at stage net) ⌝ }
 {
-    let found = record_due(s, at, stage, 0, 0);
+    let found = record_due(s, at, stage, Seen::NOTHING);
     match found {
         Found::Refused(refusal) => {
             return refused_network(refusal);
@@ -211,7 +217,7 @@ fn elements_on(s: &[u8], at: usize, stage: Stage) -> NetworkPart
 pub fn network_file(s: &[u8]) -> NetworkPart
     ensures { λ r. ⌜ r ≡ networkPart (networkFile (now (s .entry))) ⌝ }
 {
-    let found = record_due(s, 0, Stage::Head, 0, 0);
+    let found = record_due(s, 0, Stage::Head, Seen::NOTHING);
     match found {
         Found::Refused(refusal) => {
             return refused_network(refusal);

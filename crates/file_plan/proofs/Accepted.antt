@@ -6,6 +6,7 @@ use Prim.Native.Nat.{ℕ}
 use native.Mathlib.Omega.{arith}
 use Rattle.file_stages.specs.declared.Stage.{Stage}
 use Rattle.file_plan.specs.declared.plan.Plan.{Plan}
+use Rattle.file_fields.specs.Views.{linksSeen}
 use Rattle.file_network.specs.Runs.{reached}
 use Rattle.file_plan.specs.PlanFiles.{planFile}
 use Rattle.file_plan.specs.Accepted.{WellFormedPlan}
@@ -15,6 +16,7 @@ use Rattle.file_plan.proofs.Contents.{plan-holds}
 
 pub plan-well-formed :
     (s : List ℕ) (links head at : ℕ) (stage : Stage) (p : Plan) → planFile s links head ≡ reached at stage p → WellFormedPlan links p
+unfolding linksSeen
 plan-well-formed s links head at stage p h =
     let size = plan-size s links head at stage p h in
     let holds = plan-holds s links head at stage p h in

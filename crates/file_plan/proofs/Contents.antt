@@ -11,7 +11,8 @@ use Rattle.file_stages.specs.declared.Stage.{Stage}
 use Rattle.file_stages.specs.declared.Stage.the-variants.{Steps}
 use Rattle.file_plan.specs.declared.plan.Plan.{Plan}
 use Rattle.file_fields.specs.Fields.{word}
-use Rattle.file_network.specs.Runs.{reached}
+use Rattle.file_fields.specs.Views.{linksSeen}
+use Rattle.file_network.specs.Runs.{always, reached}
 use Rattle.file_plan.specs.PlanFiles.{emptyPlan, withStep, planFile}
 use Rattle.file_network.proofs.Runs.{Nth}
 use Rattle.file_network.proofs.Contents.{run-nth, run-long, run-fills}
@@ -20,7 +21,7 @@ use Rattle.file_plan.proofs.Sizes.{PlanSize, StepsRead, plan-size}
 -- The steps of the file: the record of each, behind those before it, and the fields of it that are kept.
 
 pub record StepAt (s : List ℕ) (links head : ℕ) (p : Plan) (i : ℕ) : Type 0 where
-  pub found : Nth s 0 links (withStep s) (head + 6) Steps emptyPlan i
+  pub found : Nth s (always (linksSeen links)) (withStep s) (head + 6) Steps emptyPlan i
   pub link-is : getD (p .link) i 0 ≡ word s (found .place + 4)
   pub close-is : getD (p .close) i false ≡ eqb (word s (found .place + 6)) 1
 
@@ -35,23 +36,23 @@ unfolding emptyPlan withStep
 plan-holds s links head at stage p h =
     record {
       link-long =
-          run-long s 0 links (withStep s) (word s (head + 4)) (head + 6) Steps emptyPlan _ Steps p (steps .run) refl (λ p. p .link) (λ p. p .steps)
+          run-long s (always (linksSeen links)) (withStep s) (word s (head + 4)) (head + 6) Steps emptyPlan _ Steps p (steps .run) refl (λ p. p .link) (λ p. p .steps)
           (λ at. word s (at + 4)) 0 refl fits (λ at p. refl) (λ at p. refl);
       close-long =
-          run-long s 0 links (withStep s) (word s (head + 4)) (head + 6) Steps emptyPlan _ Steps p (steps .run) refl (λ p. p .close) (λ p. p .steps)
+          run-long s (always (linksSeen links)) (withStep s) (word s (head + 4)) (head + 6) Steps emptyPlan _ Steps p (steps .run) refl (λ p. p .close) (λ p. p .steps)
           (λ at. eqb (word s (at + 6)) 1) false refl fits (λ at p. refl) (λ at p. refl);
       step =
           λ i lt.
           let lt' : i < word s (head + 4) = omega (arith, steps .steps-are) in
-          let found = run-nth s 0 links (withStep s) (word s (head + 4)) (head + 6) Steps emptyPlan _ Steps p (steps .run) refl i lt' in
+          let found = run-nth s (always (linksSeen links)) (withStep s) (word s (head + 4)) (head + 6) Steps emptyPlan _ Steps p (steps .run) refl i lt' in
           record {
             found = found;
             link-is =
-                run-fills s 0 links (withStep s) (word s (head + 4)) (head + 6) Steps emptyPlan _ Steps p (steps .run) refl (λ p. p .link)
+                run-fills s (always (linksSeen links)) (withStep s) (word s (head + 4)) (head + 6) Steps emptyPlan _ Steps p (steps .run) refl (λ p. p .link)
                 (λ p. p .steps)
                 (λ at. word s (at + 4)) 0 refl fits (λ at p. refl) (λ at p. refl) i lt' found;
             close-is =
-                run-fills s 0 links (withStep s) (word s (head + 4)) (head + 6) Steps emptyPlan _ Steps p (steps .run) refl (λ p. p .close)
+                run-fills s (always (linksSeen links)) (withStep s) (word s (head + 4)) (head + 6) Steps emptyPlan _ Steps p (steps .run) refl (λ p. p .close)
                 (λ p. p .steps)
                 (λ at. eqb (word s (at + 6)) 1) false refl fits (λ at p. refl) (λ at p. refl) i lt' found;
           };

@@ -9,7 +9,8 @@ use Rattle.file_stages.specs.declared.Stage.{Stage}
 use Rattle.file_stages.specs.declared.Stage.the-variants.{PlanHead, Steps, PlanEnd, Over}
 use Rattle.file_plan.specs.declared.plan.Plan.{Plan}
 use Rattle.file_fields.specs.Fields.{word}
-use Rattle.file_network.specs.Runs.{reached, records, asIs}
+use Rattle.file_fields.specs.Views.{linksSeen}
+use Rattle.file_network.specs.Runs.{reached, records, always, asIs}
 use Rattle.file_plan.specs.PlanFiles.{emptyPlan, withStep, planFile}
 use Rattle.file_plan.specs.Inputs.{planInput}
 use Rattle.file_records.proofs.Due.{longest, plan-head-kept}
@@ -33,7 +34,7 @@ pub record StepsRead (s : List ℕ) (links head at : ℕ) (stage : Stage) (p : P
   pub at-most : at ≤ head + longest PlanHead + longest Steps * word s (head + 4)
   pub stage-is : stage ≡ Steps
   pub steps-are : p .steps ≡ word s (head + 4)
-  pub run : records s 0 links (withStep s) (word s (head + 4)) (head + 6) Steps emptyPlan ≡ reached at stage p
+  pub run : records s (always (linksSeen links)) (withStep s) (word s (head + 4)) (head + 6) Steps emptyPlan ≡ reached at stage p
 
 pub record PlanSize (s : List ℕ) (links head at : ℕ) (stage : Stage) (p : Plan) : Type 0 where
   pub steps-end : ℕ
@@ -46,7 +47,7 @@ pub record PlanSize (s : List ℕ) (links head at : ℕ) (stage : Stage) (p : Pl
 module _ (s : List ℕ) (links head at : ℕ) (stage : Stage) (p : Plan) where
   pub plan-head-read : planHeadRun s links head ≡ reached at stage p → PlanHeadRead s head at stage p
   plan-head-read h =
-      let one = one-record s 0 links asIs head PlanHead emptyPlan at stage p h in
+      let one = one-record s (always (linksSeen links)) asIs head PlanHead emptyPlan at stage p h in
       record {
         steps-fit = plan-head-kept (one .whole);
         ends = omega (arith, one .ends, one .whole .framed .enough, one .whole .framed .most);
@@ -60,11 +61,11 @@ module _ (s : List ℕ) (links head at : ℕ) (stage : Stage) (p : Plan) where
   steps-read h =
       let b = then-reached (stepsRun s links head) (planHeadRun s links head) at stage p h in
       let before = plan-head-read s links head (b .at) (b .stage) (b .value) (b .first) in
-      let run : records s 0 links (withStep s) (word s (head + 4)) (head + 6) Steps emptyPlan ≡ reached at stage p =
+      let run : records s (always (linksSeen links)) (withStep s) (word s (head + 4)) (head + 6) Steps emptyPlan ≡ reached at stage p =
       rw (before .ends, before .stage-is, before .value-is) at (b .then)
       in
-      let ends = run-ends s 0 links (withStep s) (word s (head + 4)) (head + 6) Steps emptyPlan at stage p run refl in
-      let count = run-count s 0 links (withStep s) (word s (head + 4)) (head + 6) Steps emptyPlan at stage p run (λ p. p .steps) (λ at p. refl) in
+      let ends = run-ends s (always (linksSeen links)) (withStep s) (word s (head + 4)) (head + 6) Steps emptyPlan at stage p run refl in
+      let count = run-count s (always (linksSeen links)) (withStep s) (word s (head + 4)) (head + 6) Steps emptyPlan at stage p run (λ p. p .steps) (λ at p. refl) in
       record { steps-fit = before .steps-fit; at-most = ends .0; stage-is = ends .1; steps-are = omega arith; run = run }
 
 module _ (s : List ℕ) (links head at : ℕ) (stage : Stage) (p : Plan) where
@@ -72,8 +73,8 @@ module _ (s : List ℕ) (links head at : ℕ) (stage : Stage) (p : Plan) where
   plan-size h =
       let b = then-reached (planEndRun s links head) (withSteps s links head) at stage p (sym (plan-chain s links head) ∙ h) in
       let before = steps-read s links head (b .at) (b .stage) (b .value) (b .first) in
-      let run : records s 0 links asIs 1 (b .at) PlanEnd (b .value) ≡ reached at stage p = rw (before .stage-is) at (b .then) in
-      let one = one-record s 0 links asIs (b .at) PlanEnd (b .value) at stage p run in
+      let run : records s (always (linksSeen links)) asIs 1 (b .at) PlanEnd (b .value) ≡ reached at stage p = rw (before .stage-is) at (b .then) in
+      let one = one-record s (always (linksSeen links)) asIs (b .at) PlanEnd (b .value) at stage p run in
       let plan : b .value ≡ p = sym (one .value-is) in
       let all : StepsRead s links head (b .at) Steps p = rw (before .stage-is, plan) at before in
       let last : at ≤ b .at + longest PlanEnd = omega (arith, one .ends, one .whole .framed .most) in

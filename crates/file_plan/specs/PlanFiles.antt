@@ -7,9 +7,11 @@ use lib.Dec.{eqb}
 use lib.ListN.{set, replicate}
 use Rattle.file_stages.specs.declared.Stage.{Stage}
 use Rattle.file_stages.specs.declared.Stage.the-variants.{PlanHead}
+use Rattle.file_fields.specs.declared.Seen.{Seen}
 use Rattle.file_fields.specs.Fields.{word}
+use Rattle.file_fields.specs.Views.{linksSeen}
 use Rattle.file_stages.specs.Stages.{afterLast}
-use Rattle.file_network.specs.Runs.{Reading, readOn, records, asIs}
+use Rattle.file_network.specs.Runs.{Reading, readOn, records, always, asIs}
 use Rattle.file_plan.specs.declared.plan.Plan.{Plan}
 
 unfoldable pub emptyPlan : Plan
@@ -25,13 +27,15 @@ withStep s at p =
     }
 
 -- "A plan file is one plan head, its steps, one end." The head stands at an offset: the count of steps is the number 4 bytes on.
-unfoldable pub planEndOn : List ℕ → ℕ → ℕ → Stage → Plan → Reading Plan
-planEndOn s links at stage p = records s 0 links asIs 1 at stage p
+-- All its records see the network of so many links that it is for.
+unfoldable pub planEndOn : List ℕ → Seen → ℕ → Stage → Plan → Reading Plan
+planEndOn s seen at stage p = records s (always seen) asIs 1 at stage p
 
-unfoldable pub stepsOn : List ℕ → ℕ → ℕ → ℕ → Stage → Plan → Reading Plan
-stepsOn s links head at stage p =
-    readOn (records s 0 links (withStep s) (word s (head + 4)) at stage p)
-    (λ after next plan. planEndOn s links after (afterLast next) plan)
+unfoldable pub stepsOn : List ℕ → Seen → ℕ → ℕ → Stage → Plan → Reading Plan
+stepsOn s seen head at stage p =
+    readOn (records s (always seen) (withStep s) (word s (head + 4)) at stage p)
+    (λ after next plan. planEndOn s seen after (afterLast next) plan)
 
 unfoldable pub planFile : List ℕ → ℕ → ℕ → Reading Plan
-planFile s links at = readOn (records s 0 links asIs 1 at PlanHead emptyPlan) (stepsOn s links at)
+planFile s links at =
+    readOn (records s (always (linksSeen links)) asIs 1 at PlanHead emptyPlan) (stepsOn s (linksSeen links) at)

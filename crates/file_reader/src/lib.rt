@@ -1,4 +1,5 @@
 // The record reader: it views the file as lent bytes plus an offset.
+use file_fields::Seen;
 use file_records::Found;
 use file_records::bytes_left;
 use file_records::due_at;
@@ -22,10 +23,10 @@ struct Moved {
 }
 
 // The record due at an offset, and where a reader then stands: behind it, or at the same offset where it was refused.
-fn moved_on(s: &[u8], at: usize, stage: Stage, elements: usize, links: usize) -> Moved
-    ensures { λ r. ⌜ r ≡ movedOn (dueAt (now (s .entry)) elements links at stage) at ⌝ }
+fn moved_on(s: &[u8], at: usize, stage: Stage, seen: Seen) -> Moved
+    ensures { λ r. ⌜ r ≡ movedOn (dueAt (now (s .entry)) seen at stage) at ⌝ }
 {
-    let found = due_at(s, at, stage, elements, links);
+    let found = due_at(s, at, stage, seen);
     match found {
         Found::Refused(_) => {
             return Moved { found, at };
@@ -63,25 +64,25 @@ impl<'a> Reader<'a> {
     }
 
     // The record due where the reader stands; the reader stays there.
-    pub fn due(self, stage: Stage, elements: usize, links: usize) -> Found
-        ensures { λ r. ⌜ r ≡ dueAt (now (self .entry .src)) elements links (self .entry .at) stage ⌝ }
+    pub fn due(self, stage: Stage, seen: Seen) -> Found
+        ensures { λ r. ⌜ r ≡ dueAt (now (self .entry .src)) seen (self .entry .at) stage ⌝ }
     {
-        due_at(self.src, self.at, stage, elements, links)
+        due_at(self.src, self.at, stage, seen)
     }
 
     // The record due where the reader stands; the reader moves behind it, or stays where it is refused.
-    pub fn next(&mut self, stage: Stage, elements: usize, links: usize) -> Found
-        ensures { λ r. ⌜ (r ≡ dueAt (now (now (self .entry) .src)) elements links (now (self .entry) .at) stage) × (now (self .exit) ≡ movedTo (now (self .entry)) (behind r (now (self .entry) .at))) ⌝ }
+    pub fn next(&mut self, stage: Stage, seen: Seen) -> Found
+        ensures { λ r. ⌜ (r ≡ dueAt (now (now (self .entry) .src)) seen (now (self .entry) .at) stage) × (now (self .exit) ≡ movedTo (now (self .entry)) (behind r (now (self .entry) .at))) ⌝ }
     {
-        let moved = moved_on(self.src, self.at, stage, elements, links);
+        let moved = moved_on(self.src, self.at, stage, seen);
         self.at = moved.at;
         moved.found
     }
 }
 
 // The record due at an offset of `s`, by a reader that is made for it.
-pub fn record_due(s: &[u8], at: usize, stage: Stage, elements: usize, links: usize) -> Found
-    ensures { λ r. ⌜ r ≡ dueAt (now (s .entry)) elements links at stage ⌝ }
+pub fn record_due(s: &[u8], at: usize, stage: Stage, seen: Seen) -> Found
+    ensures { λ r. ⌜ r ≡ dueAt (now (s .entry)) seen at stage ⌝ }
 {
-    Reader::new(s, at).due(stage, elements, links)
+    Reader::new(s, at).due(stage, seen)
 }

@@ -16,6 +16,7 @@ use Rattle.file_records.specs.declared.Found.{Found}
 use Rattle.file_records.specs.declared.Found.the-variants.{Record, Refused}
 use Rattle.network.specs.Refusals.{pick, firstBroken}
 use Rattle.file_stages.specs.Stages.{nextStage}
+use Rattle.file_fields.specs.declared.Seen.{Seen}
 use Rattle.file_fields.specs.Fields.{word, lengthOf, headRules, elementRules, linkRules, planHeadRules, stepRules, fieldRules}
 use Rattle.file_records.specs.Records.{lengthField, kindField, isRefused, foundBy, frameRules, recordRules, recordAt, dueAt}
 use Rattle.file_records.proofs.Due.{elseFirst, first-append, Framed, longest, of-kind, goes-one-way, not-refused, length-at, frame-kept}
@@ -71,14 +72,14 @@ looks-longest s at stage four =
 -- Rules 5 to 12 read no word outside the record.
 
 pub fields-alike :
-    (s t : List ℕ) (at at′ kind elements links : ℕ) →
+    (s t : List ℕ) (at at′ kind : ℕ) (seen : Seen) →
     ((i : ℕ) → i + 2 ≤ lengthOf kind → word s (at + i) ≡ word t (at′ + i)) →
-    fieldRules s at kind elements links ≡ fieldRules t at′ kind elements links
+    fieldRules s at kind seen ≡ fieldRules t at′ kind seen
 unfolding fieldRules headRules elementRules linkRules planHeadRules stepRules lengthOf
-fields-alike s t at at′ kind elements links =
+fields-alike s t at at′ kind seen =
     let Same : ℕ → Type 0 =
     λ k.
-    ((i : ℕ) → i + 2 ≤ lengthOf k → word s (at + i) ≡ word t (at′ + i)) → fieldRules s at k elements links ≡ fieldRules t at′ k elements links in
+    ((i : ℕ) → i + 2 ≤ lengthOf k → word s (at + i) ≡ word t (at′ + i)) → fieldRules s at k seen ≡ fieldRules t at′ k seen in
     of-kind Same kind 1 (λ w. rw (w 4 (omega arith), w 6 (omega arith)))
     (λ e1.
     of-kind Same kind 2 (λ w. rw (w 8 (omega arith)))
@@ -122,26 +123,26 @@ module _ (s t : List ℕ) (at at′ upto : ℕ) (stage : Stage) (same : SameFrom
       (Broken RecordMissing) (Broken KindOutOfPlace) (Broken WrongLength) (Broken RecordCutOff)
       (λ h. left-same same (lengthField s at) (rw h at far)))
 
-  verdict-alike : (elements links : ℕ) → firstBroken (recordRules s elements links at stage) ≡ firstBroken (recordRules t elements links at′ stage)
+  verdict-alike : (seen : Seen) → firstBroken (recordRules s seen at stage) ≡ firstBroken (recordRules t seen at′ stage)
   unfolding recordRules recordAt
-  verdict-alike elements links =
-      first-append (frameRules s at stage) (fieldRules s at (kindField s at) elements links) ∙
+  verdict-alike seen =
+      first-append (frameRules s at stage) (fieldRules s at (kindField s at) seen) ∙
       or-else-same (firstBroken (frameRules s at stage)) _ _
       (λ kept.
       let f = frame-kept s at stage (ap (foundBy s at stage) kept) in
       let long = framed-looks s at stage _ _ _ f in
       ap firstBroken
-      (fields-alike s t at at′ (kindField s at) elements links (λ i h. same .words i (omega (arith, f .long-of, far))) ∙
-      ap (λ (k : ℕ). fieldRules t at′ k elements links) (same .words 2 (omega (arith, four))))) ∙
-      ap (λ (v : Verdict). elseFirst v (firstBroken (fieldRules t at′ (kindField t at′) elements links))) frame-alike ∙
-      sym (first-append (frameRules t at′ stage) (fieldRules t at′ (kindField t at′) elements links))
+      (fields-alike s t at at′ (kindField s at) seen (λ i h. same .words i (omega (arith, f .long-of, far))) ∙
+      ap (λ (k : ℕ). fieldRules t at′ k seen) (same .words 2 (omega (arith, four))))) ∙
+      ap (λ (v : Verdict). elseFirst v (firstBroken (fieldRules t at′ (kindField t at′) seen))) frame-alike ∙
+      sym (first-append (frameRules t at′ stage) (fieldRules t at′ (kindField t at′) seen))
 
   found-alike : (v : Verdict) → foundBy t at′ stage v ≡ placed at′ (foundBy s at stage v)
   found-alike Kept = rw (first-word same (omega (arith, four)), same .words 2 (omega (arith, four)))
   found-alike (Broken r) = refl
 
   -- where the bytes are the same as far as the record looks, the same is found
-  pub due-alike : (elements links : ℕ) → dueAt t elements links at′ stage ≡ placed at′ (dueAt s elements links at stage)
+  pub due-alike : (seen : Seen) → dueAt t seen at′ stage ≡ placed at′ (dueAt s seen at stage)
   unfolding dueAt
-  due-alike elements links =
-      ap (foundBy t at′ stage) (sym (verdict-alike elements links)) ∙ found-alike (firstBroken (recordRules s elements links at stage))
+  due-alike seen =
+      ap (foundBy t at′ stage) (sym (verdict-alike seen)) ∙ found-alike (firstBroken (recordRules s seen at stage))

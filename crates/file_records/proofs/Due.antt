@@ -20,6 +20,7 @@ use Rattle.file_records.specs.declared.Found.the-variants.{Record, Refus
 use Rattle.network.specs.Refusals.{Check, pick, firstBroken}
 use Rattle.file_stages.specs.Stages.{goesTo, nextStage}
 use Rattle.network.specs.Accepted.{suits}
+use Rattle.file_fields.specs.declared.Seen.{Seen}
 use Rattle.file_fields.specs.Fields.{word, lengthOf, either, headRules, elementRules, linkRules, planHeadRules, stepRules, fieldRules}
 use Rattle.file_records.specs.Records.{lengthField, kindField, isRefused, named, foundBy, frameRules, recordRules, recordAt, dueAt}
 
@@ -161,10 +162,10 @@ pub record Framed (s : List ℕ) (at : ℕ) (stage : Stage) (kind long : ℕ) (n
   pub next-at : next ≡ nextAt stage
 
 -- What rules 1 to 12 promise: the tests of rules 5 to 12 that speak of the record's kind are false too.
-pub record Whole (s : List ℕ) (elements links at : ℕ) (stage : Stage) (kind long : ℕ) (next : Stage) : Type 0 where
+pub record Whole (s : List ℕ) (seen : Seen) (at : ℕ) (stage : Stage) (kind long : ℕ) (next : Stage) : Type 0 where
   pub framed : Framed s at stage kind long next
-  pub kept : firstBroken (recordRules s elements links at stage) ≡ Kept
-  pub fields : AllKept (fieldRules s at kind elements links)
+  pub kept : firstBroken (recordRules s seen at stage) ≡ Kept
+  pub fields : AllKept (fieldRules s at kind seen)
 
 found-kept :
     (s : List ℕ) (at : ℕ) (stage : Stage) (v : Verdict) (kind long : ℕ) (next : Stage) →
@@ -225,56 +226,56 @@ module _ (s : List ℕ) (at : ℕ) (stage : Stage) where
   unfolding recordAt
   frame-refused {r} h = found-refused s at stage (firstBroken (frameRules s at stage)) r h
 
-module _ (s : List ℕ) (elements links at : ℕ) (stage : Stage) where
-  pub due-kept : {kind long : ℕ} {next : Stage} → dueAt s elements links at stage ≡ Record kind long next → Whole s elements links at stage kind long
+module _ (s : List ℕ) (seen : Seen) (at : ℕ) (stage : Stage) where
+  pub due-kept : {kind long : ℕ} {next : Stage} → dueAt s seen at stage ≡ Record kind long next → Whole s seen at stage kind long
       next
   unfolding dueAt recordRules
   due-kept {kind} {long} {next} h =
-      let f = found-kept s at stage (firstBroken (recordRules s elements links at stage)) kind long next h in
-      let both = first-append-kept (frameRules s at stage) (fieldRules s at (kindField s at) elements links) (f .0) in
+      let f = found-kept s at stage (firstBroken (recordRules s seen at stage)) kind long next h in
+      let both = first-append-kept (frameRules s at stage) (fieldRules s at (kindField s at) seen) (f .0) in
       let frame = framed-of s at stage kind long next (all-kept (frameRules s at stage) (both .0)) (f .1) (f .2) (f .3) in
       record {
         framed = frame;
         kept = f .0;
         fields =
-            subst (λ (k : ℕ). AllKept (fieldRules s at k elements links)) (f .1)
-            (all-kept (fieldRules s at (kindField s at) elements links) (both .1));
+            subst (λ (k : ℕ). AllKept (fieldRules s at k seen)) (f .1)
+            (all-kept (fieldRules s at (kindField s at) seen) (both .1));
       }
 
   pub due-refused :
       {r : Refusal} →
-      dueAt s elements links at stage ≡ Refused r →
-      (firstBroken (recordRules s elements links at stage) ≡ Broken (r .rule)) × (r .place ≡ at)
+      dueAt s seen at stage ≡ Refused r →
+      (firstBroken (recordRules s seen at stage) ≡ Broken (r .rule)) × (r .place ≡ at)
   unfolding dueAt
-  due-refused {r} h = found-refused s at stage (firstBroken (recordRules s elements links at stage)) r h
+  due-refused {r} h = found-refused s at stage (firstBroken (recordRules s seen at stage)) r h
 
   -- `dueAt` is `recordAt`, then the rules of the kind
-  pub due-frame-refused : (r : Refusal) → recordAt s at stage ≡ Refused r → dueAt s elements links at stage ≡ Refused r
+  pub due-frame-refused : (r : Refusal) → recordAt s at stage ≡ Refused r → dueAt s seen at stage ≡ Refused r
   unfolding recordAt dueAt recordRules
   due-frame-refused r h =
       let f = found-refused s at stage (firstBroken (frameRules s at stage)) r h in
       ap (foundBy s at stage)
-      (first-append (frameRules s at stage) (fieldRules s at (kindField s at) elements links) ∙
-      ap (λ (v : Verdict). elseFirst v (firstBroken (fieldRules s at (kindField s at) elements links))) (f .0)) ∙
+      (first-append (frameRules s at stage) (fieldRules s at (kindField s at) seen) ∙
+      ap (λ (v : Verdict). elseFirst v (firstBroken (fieldRules s at (kindField s at) seen))) (f .0)) ∙
       ap (λ (p : ℕ). Refused (record { rule = r .rule; place = p })) (sym (f .1))
 
   pub due-fields :
       (kind long : ℕ) (next : Stage) →
       recordAt s at stage ≡ Record kind long next →
-      dueAt s elements links at stage ≡ foundBy s at stage (firstBroken (fieldRules s at kind elements links))
+      dueAt s seen at stage ≡ foundBy s at stage (firstBroken (fieldRules s at kind seen))
   unfolding recordAt dueAt recordRules
   due-fields kind long next h =
       let f = found-kept s at stage (firstBroken (frameRules s at stage)) kind long next h in
       ap (foundBy s at stage)
-      (first-append (frameRules s at stage) (fieldRules s at (kindField s at) elements links) ∙
-      ap (λ (v : Verdict). elseFirst v (firstBroken (fieldRules s at (kindField s at) elements links))) (f .0) ∙
-      ap (λ (k : ℕ). firstBroken (fieldRules s at k elements links)) (f .1))
+      (first-append (frameRules s at stage) (fieldRules s at (kindField s at) seen) ∙
+      ap (λ (v : Verdict). elseFirst v (firstBroken (fieldRules s at (kindField s at) seen))) (f .0) ∙
+      ap (λ (k : ℕ). firstBroken (fieldRules s at k seen)) (f .1))
 
   pub due-fields-kept :
       (kind long : ℕ) (next : Stage) →
       recordAt s at stage ≡ Record kind long next →
-      firstBroken (fieldRules s at kind elements links) ≡ Kept →
-      dueAt s elements links at stage ≡ Record kind long next
+      firstBroken (fieldRules s at kind seen) ≡ Kept →
+      dueAt s seen at stage ≡ Record kind long next
   unfolding recordAt
   due-fields-kept kind long next h e =
       let f = found-kept s at stage (firstBroken (frameRules s at stage)) kind long next h in
@@ -283,23 +284,23 @@ module _ (s : List ℕ) (elements links at : ℕ) (stage : Stage) where
   pub due-fields-broken :
       (kind long : ℕ) (next : Stage) (r : Rule) →
       recordAt s at stage ≡ Record kind long next →
-      firstBroken (fieldRules s at kind elements links) ≡ Broken r →
-      dueAt s elements links at stage ≡ Refused (record { rule = r; place = at })
+      firstBroken (fieldRules s at kind seen) ≡ Broken r →
+      dueAt s seen at stage ≡ Refused (record { rule = r; place = at })
   due-fields-broken kind long next r h e = due-fields kind long next h ∙ ap (foundBy s at stage) e
 
 -- What rules 5 to 12 promise of a record: at each stage one of its kinds, and of each kind its own rules.
 
-module _ {s : List ℕ} {elements links at : ℕ} {stage : Stage} {kind long : ℕ} {next : Stage} where
-  pub kind-there : Whole s elements links at stage kind long next → KindAt stage kind
+module _ {s : List ℕ} {seen : Seen} {at : ℕ} {stage : Stage} {kind long : ℕ} {next : Stage} where
+  pub kind-there : Whole s seen at stage kind long next → KindAt stage kind
   kind-there w = goes-one-way stage kind next (w .framed .goes) .0
 
   -- a record of a kind that is known
-  pub as-kind : {k : ℕ} → kind ≡ k → Whole s elements links at stage kind long next → Whole s elements links at stage k long next
+  pub as-kind : {k : ℕ} → kind ≡ k → Whole s seen at stage kind long next → Whole s seen at stage k long next
   as-kind e w = rw e at w
 
-module _ {s : List ℕ} {elements links at kind long : ℕ} {next : Stage} where
+module _ {s : List ℕ} {seen : Seen} {at kind long : ℕ} {next : Stage} where
   pub head-kept :
-      Whole s elements links at Head kind long next →
+      Whole s seen at Head kind long next →
       record { some : 1 ≤ word s (at + 4); elements-fit : word s (at + 4) ≤ 64; links-fit : word s (at + 6) ≤ 96 }
   unfolding fieldRules headRules
   head-kept w =
@@ -313,44 +314,44 @@ module _ {s : List ℕ} {elements links at kind long : ℕ} {next : Stage} where
         links-fit = ltb-false 96 (word s (at + 6)) (u .1);
       }
 
-  pub plan-head-kept : Whole s elements links at PlanHead kind long next → word s (at + 4) ≤ 255
+  pub plan-head-kept : Whole s seen at PlanHead kind long next → word s (at + 4) ≤ 255
   unfolding fieldRules planHeadRules
   plan-head-kept w = ltb-false 255 (word s (at + 4)) (as-kind (kind-there w) w .fields .0)
 
   pub step-kept :
-      Whole s elements links at Steps kind long next →
-      record { link-in : word s (at + 4) < links; state-in : word s (at + 6) ≤ 1 }
+      Whole s seen at Steps kind long next →
+      record { link-in : word s (at + 4) < seen .links; state-in : word s (at + 6) ≤ 1 }
   unfolding fieldRules stepRules
   step-kept w =
       let fields = as-kind (kind-there w) w .fields in
       record {
-        link-in = leb-false links (word s (at + 4)) (fields .0);
+        link-in = leb-false (seen .links) (word s (at + 4)) (fields .0);
         state-in = ltb-false 1 (word s (at + 6)) (fields .1 .0);
       }
 
 -- at the stages of elements and links, of each kind by itself
-module _ {s : List ℕ} {elements links at : ℕ} {stage : Stage} {long : ℕ} {next : Stage} where
-  pub element-kept : Whole s elements links at stage 2 long next → word s (at + 8) ≤ 3
+module _ {s : List ℕ} {seen : Seen} {at : ℕ} {stage : Stage} {long : ℕ} {next : Stage} where
+  pub element-kept : Whole s seen at stage 2 long next → word s (at + 8) ≤ 3
   unfolding fieldRules elementRules
   element-kept w = ltb-false 3 (word s (at + 8)) (w .fields .0)
 
   pub link-kept :
-      Whole s elements links at stage 3 long next →
+      Whole s seen at stage 3 long next →
       record {
-        from-in : word s (at + 4) < elements;
-        to-in : word s (at + 6) < elements;
+        from-in : word s (at + 4) < seen .elements;
+        to-in : word s (at + 6) < seen .elements;
         differ : word s (at + 4) ≡ word s (at + 6) → ⊥;
         form-in : word s (at + 8) ≤ 2;
         suited : suits (word s (at + 8)) (word s (at + 10)) ≡ true;
       }
   unfolding fieldRules linkRules
   link-kept w =
-      let t = either-false (leb elements (word s (at + 4))) (either (leb elements (word s (at + 6))) (eqb (word s (at + 4)) (word s (at + 6))))
+      let t = either-false (leb (seen .elements) (word s (at + 4))) (either (leb (seen .elements) (word s (at + 6))) (eqb (word s (at + 4)) (word s (at + 6))))
       (w .fields .0) in
-      let u = either-false (leb elements (word s (at + 6))) (eqb (word s (at + 4)) (word s (at + 6))) (t .1) in
+      let u = either-false (leb (seen .elements) (word s (at + 6))) (eqb (word s (at + 4)) (word s (at + 6))) (t .1) in
       record {
-        from-in = leb-false elements (word s (at + 4)) (t .0);
-        to-in = leb-false elements (word s (at + 6)) (u .0);
+        from-in = leb-false (seen .elements) (word s (at + 4)) (t .0);
+        to-in = leb-false (seen .elements) (word s (at + 6)) (u .0);
         differ = eqb-false (word s (at + 4)) (word s (at + 6)) (u .1);
         form-in = ltb-false 2 (word s (at + 8)) (w .fields .1 .0);
         suited = not-false (suits (word s (at + 8)) (word s (at + 10))) (w .fields .1 .1 .0);

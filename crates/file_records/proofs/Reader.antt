@@ -17,6 +17,7 @@ use Rattle.file_records.specs.declared.Found.{Found}
 use Rattle.file_records.specs.declared.Found.the-variants.{Record, Refused}
 use Rattle.network.specs.Refusals.{firstBroken}
 use Rattle.file_stages.specs.Stages.{nextStage}
+use Rattle.file_fields.specs.declared.Seen.{Seen}
 use Rattle.file_fields.specs.Fields.{word, lengthOf, fieldRules}
 use Rattle.file_records.specs.Records.{kindField, named, foundBy, frameRules, recordAt, dueAt}
 use Rattle.file_records.proofs.Due.{frame-kept, due-fields}
@@ -54,12 +55,12 @@ decided kind long next at Kept = Record kind long next
 decided kind long next at (Broken r) = refusal r at
 
 pub due-decided :
-    (s : List ℕ) (elements links at : ℕ) (stage : Stage) (kind long : ℕ) (next : Stage) (v : Verdict) →
+    (s : List ℕ) (seen : Seen) (at : ℕ) (stage : Stage) (kind long : ℕ) (next : Stage) (v : Verdict) →
     recordAt s at stage ≡ Record kind long next →
-    v ≡ firstBroken (fieldRules s at kind elements links) →
-    decided kind long next at v ≡ dueAt s elements links at stage
-due-decided s elements links at stage kind long next v h hv =
-    same v ∙ ap (foundBy s at stage) hv ∙ sym (due-fields s elements links at stage kind long next h)
+    v ≡ firstBroken (fieldRules s at kind seen) →
+    decided kind long next at v ≡ dueAt s seen at stage
+due-decided s seen at stage kind long next v h hv =
+    same v ∙ ap (foundBy s at stage) hv ∙ sym (due-fields s seen at stage kind long next h)
   where
     same : (w : Verdict) → decided kind long next at w ≡ foundBy s at stage w
     same Kept =
@@ -71,16 +72,16 @@ due-decided s elements links at stage kind long next v h hv =
 
 -- a record of a kind that may come, whole, with fields that break no rule, is found
 pub due-found :
-    (s : List ℕ) (elements links at kind long : ℕ) (stage next : Stage) →
+    (s : List ℕ) (seen : Seen) (at kind long : ℕ) (stage next : Stage) →
     word s at ≡ long →
     word s (at + 2) ≡ kind →
     at + long ≤ length s →
     4 ≤ long →
     nextStage stage kind ≡ Go next →
     lengthOf kind ≡ long →
-    firstBroken (fieldRules s at kind elements links) ≡ Kept →
-    dueAt s elements links at stage ≡ Record kind long next
-due-found s elements links at kind long stage next hl hk fits least go hlen kept =
+    firstBroken (fieldRules s at kind seen) ≡ Kept →
+    dueAt s seen at stage ≡ Record kind long next
+due-found s seen at kind long stage next hl hk fits least go hlen kept =
     let found = whole s at stage (length s - at) kind (nextStage stage kind) refl (sym hk) refl next long long (omega arith) go (sym hl) (sym hlen)
     refl (omega arith) in
-    sym (due-decided s elements links at stage kind long next Kept (sym found) (sym kept))
+    sym (due-decided s seen at stage kind long next Kept (sym found) (sym kept))

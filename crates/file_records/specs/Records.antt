@@ -15,6 +15,7 @@ use Rattle.file_records.specs.declared.Found.{Found}
 use Rattle.file_records.specs.declared.Found.the-variants.{Record, Refused}
 use Rattle.network.specs.Refusals.{Check, check, firstBroken}
 use Rattle.file_stages.specs.Stages.{nextStage}
+use Rattle.file_fields.specs.declared.Seen.{Seen}
 use Rattle.file_fields.specs.Fields.{word, lengthOf, fieldRules}
 
 -- "A record is: its length in bytes (the length field included), its kind, its fields."
@@ -44,8 +45,8 @@ frameRules s at stage =
     check RecordCutOff (ltb (length s - at) (lengthField s at)) ∷ []
 
 -- Rules 1 to 12, "within each record", in document 01's order
-unfoldable pub recordRules : List ℕ → ℕ → ℕ → ℕ → Stage → List Check
-recordRules s elements links at stage = frameRules s at stage ++ fieldRules s at (kindField s at) elements links
+unfoldable pub recordRules : List ℕ → Seen → ℕ → Stage → List Check
+recordRules s seen at stage = frameRules s at stage ++ fieldRules s at (kindField s at) seen
 
 -- what a verdict on the record at an offset gives: the place is "the offset, in the whole input, of the record's first byte"
 abbrev pub foundBy : List ℕ → ℕ → Stage → Verdict → Found
@@ -57,6 +58,6 @@ foundBy s at stage (Broken r) = Refused (record { rule = r; place = at })
 unfoldable pub recordAt : List ℕ → ℕ → Stage → Found
 recordAt s at stage = foundBy s at stage (firstBroken (frameRules s at stage))
 
--- the record due at an offset, in a network of so many elements and links: rules 1 to 12
-unfoldable pub dueAt : List ℕ → ℕ → ℕ → ℕ → Stage → Found
-dueAt s elements links at stage = foundBy s at stage (firstBroken (recordRules s elements links at stage))
+-- the record due at an offset, by what was read before it: rules 1 to 12
+unfoldable pub dueAt : List ℕ → Seen → ℕ → Stage → Found
+dueAt s seen at stage = foundBy s at stage (firstBroken (recordRules s seen at stage))

@@ -1,4 +1,5 @@
 // One record: what stands at an offset, by document 01's rules 1 to 12, of which 5 to 12 are those of its fields.
+use file_fields::Seen;
 use file_fields::field_rules;
 use file_fields::word_at;
 use file_stages::Next;
@@ -77,15 +78,15 @@ pub fn record_at(s: &[u8], at: usize, stage: Stage) -> Found
     }
 }
 
-// The record due at an offset in a network of so many elements and links: rules 1 to 12 in their order.
-pub fn due_at(s: &[u8], at: usize, stage: Stage, elements: usize, links: usize) -> Found
-    ensures { λ r. ⌜ r ≡ dueAt (now (s .entry)) elements links at stage ⌝ }
+// The record due at an offset, by what was read before it: rules 1 to 12 in their order.
+pub fn due_at(s: &[u8], at: usize, stage: Stage, seen: Seen) -> Found
+    ensures { λ r. ⌜ r ≡ dueAt (now (s .entry)) seen at stage ⌝ }
 {
     let found = record_at(s, at, stage);
     let Found::Record { kind, length, next } = found else {
         return found;
     };
-    let verdict = field_rules(s, at, kind, elements, links);
+    let verdict = field_rules(s, at, kind, seen);
     match verdict {
         Verdict::Kept => {
             return Found::Record { kind, length, next };

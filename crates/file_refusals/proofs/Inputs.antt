@@ -16,7 +16,8 @@ use Rattle.network.specs.Refusals.{pick}
 use Rattle.file_stages.specs.declared.Stage.{Stage}
 use Rattle.file_stages.specs.declared.Stage.the-variants.{Head, Elements, Links, End, PlanHead, Steps, PlanEnd}
 use Rattle.file_fields.specs.Fields.{word}
-use Rattle.file_network.specs.Runs.{Reading, refused, reached, readOn, asIs}
+use Rattle.file_fields.specs.Views.{nothingSeen, networkSeen, linksSeen}
+use Rattle.file_network.specs.Runs.{Reading, refused, reached, readOn, records, always, asIs}
 use Rattle.file_network.specs.NetworkFiles.{withElement, withLink, networkFile}
 use Rattle.file_network.specs.Inputs.{closed, networkInput}
 use Rattle.file_network.proofs.Parts.{headRun, elementsRun, linksRun, endRun, withElements, withLinks, network-chain}
@@ -35,7 +36,19 @@ use Rattle.file_refusals.proofs.Files.{stand-once, break-once, stand-un
 module _ (s : List ℕ) where
   -- the head, and the elements, in the network of the head's counts
   pub head-ran : Ran s (word s 4) (word s 6) (Head ∷ []) 0 (headRun s)
-  head-ran = one-ran s 0 0 (word s 4) (word s 6) asIs 0 Head emptyNetwork tt
+  head-ran = one-ran s (word s 4) (word s 6) (always nothingSeen) asIs 0 Head emptyNetwork tt
+
+  pub elements-run-ran : (i at : ℕ) (n : Network)
+      → Ran s (word s 4) (word s 6) (replicate i Elements) at (records s (always nothingSeen) (withElement s) i at Elements n)
+  elements-run-ran i at n =
+      many-ran s (word s 4) (word s 6) (always nothingSeen) (withElement s) Elements (λ at n. Unit) refl (λ at n q. tt) (λ at n kind long after d q. tt) i at n tt
+
+  -- links behind all elements: the network that is seen has E elements
+  pub links-run-ran : (l at : ℕ) (n : Network) → n .elements ≡ word s 4
+      → Ran s (word s 4) (word s 6) (replicate l Links) at (records s networkSeen (withLink s) l at Links n)
+  unfolding networkSeen withLink
+  links-run-ran =
+      many-ran s (word s 4) (word s 6) networkSeen (withLink s) Links (λ at n. n .elements ≡ word s 4) refl (λ at n q. q) (λ at n kind long after d q. q)
 
   pub elements-ran : Ran s (word s 4) (word s 6) (Head ∷ replicate (word s 4) Elements) 0 (withElements s)
   elements-ran = ran-then s (word s 4) (word s 6) (Head ∷ []) (replicate (word s 4) Elements) 0 (headRun s) (elementsRun s) head-ran more
@@ -44,7 +57,7 @@ module _ (s : List ℕ) where
           → Ran s (word s 4) (word s 6) (replicate (word s 4) Elements) at (elementsRun s at stage n)
       more at stage n e =
           subst (λ (st : Stage). Ran s (word s 4) (word s 6) (replicate (word s 4) Elements) at (elementsRun s at st n)) (sym (head-read s at stage n e .stage-is))
-          (many-ran s 0 0 (word s 4) (word s 6) (withElement s) (word s 4) at Elements n refl tt)
+          (elements-run-ran (word s 4) at n)
 
   pub links-ran : Ran s (word s 4) (word s 6) ((Head ∷ replicate (word s 4) Elements) ++ replicate (word s 6) Links) 0 (withLinks s)
   links-ran =
@@ -55,7 +68,7 @@ module _ (s : List ℕ) where
       more at stage n e =
           let read = elements-read s at stage n e in
           subst (λ (st : Stage). Ran s (word s 4) (word s 6) (replicate (word s 6) Links) at (linksRun s at st n)) (sym (read .stage-is))
-          (many-ran s (n .elements) 0 (word s 4) (word s 6) (withLink s) (word s 6) at Links n refl (read .elements-are))
+          (links-run-ran (word s 6) at n (read .elements-are))
 
   pub network-ran : Ran s (word s 4) (word s 6) (networkStages (word s 4) (word s 6)) 0 (networkFile s)
   network-ran =
@@ -67,11 +80,18 @@ module _ (s : List ℕ) where
       more : (at : ℕ) (stage : Stage) (n : Network) → withLinks s ≡ reached at stage n → Ran s (word s 4) (word s 6) (End ∷ []) at (endRun s at stage n)
       more at stage n e =
           subst (λ (st : Stage). Ran s (word s 4) (word s 6) (End ∷ []) at (endRun s at st n)) (sym (links-read s at stage n e .stage-is))
-          (one-ran s 0 0 (word s 4) (word s 6) asIs at End n tt)
+          (one-ran s (word s 4) (word s 6) (always nothingSeen) asIs at End n tt)
 
   -- the plan file behind a network of these counts
   pub plan-head-ran : (head : ℕ) → Ran s (word s 4) (word s 6) (PlanHead ∷ []) head (planHeadRun s (word s 6) head)
-  plan-head-ran head = one-ran s 0 (word s 6) (word s 4) (word s 6) asIs head PlanHead emptyPlan tt
+  plan-head-ran head = one-ran s (word s 4) (word s 6) (always (linksSeen (word s 6))) asIs head PlanHead emptyPlan tt
+
+  pub steps-run-ran : (i at : ℕ) (p : Plan)
+      → Ran s (word s 4) (word s 6) (replicate i Steps) at (records s (always (linksSeen (word s 6))) (withStep s) i at Steps p)
+  unfolding linksSeen
+  steps-run-ran i at p =
+      many-ran s (word s 4) (word s 6) (always (linksSeen (word s 6))) (withStep s) Steps (λ at p. Unit) refl (λ at p q. refl)
+      (λ at p kind long after d q. tt) i at p tt
 
   pub plan-ran : (at : ℕ) → Ran s (word s 4) (word s 6) (planStages (word s (at + 4))) at (planFile s (word s 6) at)
   plan-ran head =
@@ -87,14 +107,14 @@ module _ (s : List ℕ) where
       more at stage p e =
           subst (λ (st : Stage). Ran s (word s 4) (word s 6) (replicate (word s (head + 4)) Steps) at (stepsRun s (word s 6) head at st p))
           (sym (plan-head-read s (word s 6) head at stage p e .stage-is))
-          (many-ran s 0 (word s 6) (word s 4) (word s 6) (withStep s) (word s (head + 4)) at Steps p refl refl)
+          (steps-run-ran (word s (head + 4)) at p)
 
       last : (at : ℕ) (stage : Stage) (p : Plan) → withSteps s (word s 6) head ≡ reached at stage p
           → Ran s (word s 4) (word s 6) (PlanEnd ∷ []) at (planEndRun s (word s 6) head at stage p)
       last at stage p e =
           subst (λ (st : Stage). Ran s (word s 4) (word s 6) (PlanEnd ∷ []) at (planEndRun s (word s 6) head at st p))
           (sym (steps-read s (word s 6) head at stage p e .stage-is))
-          (one-ran s 0 (word s 6) (word s 4) (word s 6) asIs at PlanEnd p tt)
+          (one-ran s (word s 4) (word s 6) (always (linksSeen (word s 6))) asIs at PlanEnd p tt)
 
 -- ---- one case, and no other
 

@@ -20,79 +20,25 @@ use Rattle.file_records.specs.declared.Found.{Found}
 use Rattle.file_records.specs.declared.Found.the-variants.{Record, Refused}
 use Rattle.file_stages.specs.declared.Next.{Next}
 use Rattle.file_stages.specs.declared.Next.the-variants.{Go, Refused as Next·Refused}
-use Rattle.file_stages.specs.Stages.{goesTo, nextStage}
-use Rattle.network.specs.Refusals.{ruleNumber, Check, check, pick, firstBroken}
+use Rattle.file_stages.specs.Stages.{nextStage}
+use Rattle.network.specs.Refusals.{position, Sooner, Check, check, pick, firstBroken}
+use Rattle.network.proofs.Order.{position-once}
 use Rattle.network.specs.Accepted.{suits}
+use Rattle.file_fields.specs.declared.Seen.{Seen}
 use Rattle.file_fields.specs.Fields.{word, lengthOf, either, only, headRules, elementRules, linkRules, planHeadRules, stepRules, fieldRules}
 use Rattle.file_records.specs.Records.{lengthField, kindField, isRefused, named, frameRules, recordRules, dueAt}
 use Rattle.file_records.proofs.Due.{first-append, either-false, elseFirst, goes-one-way, due-kept, due-refused}
 use Rattle.file_refusals.specs.Breaking.{ComesNext, behind-head, behind-element, behind-link, behind-end, behind-plan-head, behind-step, behind-plan-end, MayCome, KindLength, network-head, element, link, end, plan-head, step, InRange, CostSuits, BreaksRule, Keeps, BreaksFirst}
 
--- ---- one rule for each number
-
-ruleAt : ℕ → Rule
-ruleAt n =
-    pick (eqb n 1) RecordMissing
-    (pick (eqb n 2) KindOutOfPlace (pick (eqb n 3) WrongLength (pick (eqb n 4) RecordCutOff (pick (eqb n 5) HeadOutOfRange (pick (eqb n 6) UnknownFlags
-    (pick (eqb n 7) BadEnds (pick (eqb n 8) UnknownForm (pick (eqb n 9) UnsuitedCost (pick (eqb n 10) TooManySteps (pick (eqb n 11) UnknownLink
-    (pick (eqb n 12) UnknownState (pick (eqb n 13) ByteAfterEnd (pick (eqb n 14) NotATree (pick (eqb n 15) TwoSources (pick (eqb n 16) FaultWithSource
-    (pick (eqb n 17) Overloaded (pick (eqb n 18) TooManyOperable BufferTooShort)))))))))))))))))
-
-rule-at : (r : Rule) → ruleAt (ruleNumber r) ≡ r
-unfolding ruleAt
-rule-at RecordMissing = refl
-rule-at KindOutOfPlace = refl
-rule-at WrongLength = refl
-rule-at RecordCutOff = refl
-rule-at HeadOutOfRange = refl
-rule-at UnknownFlags = refl
-rule-at BadEnds = refl
-rule-at UnknownForm = refl
-rule-at UnsuitedCost = refl
-rule-at TooManySteps = refl
-rule-at UnknownLink = refl
-rule-at UnknownState = refl
-rule-at ByteAfterEnd = refl
-rule-at NotATree = refl
-rule-at TwoSources = refl
-rule-at FaultWithSource = refl
-rule-at Overloaded = refl
-rule-at TooManyOperable = refl
-rule-at BufferTooShort = refl
-
-pub rule-numbered : (q r : Rule) → ruleNumber q ≡ ruleNumber r → q ≡ r
-rule-numbered q r e = sym (rule-at q) ∙ ap ruleAt e ∙ rule-at r
-
-numbered : (r : Rule) → 1 ≤ ruleNumber r
-numbered RecordMissing = omega arith
-numbered KindOutOfPlace = omega arith
-numbered WrongLength = omega arith
-numbered RecordCutOff = omega arith
-numbered HeadOutOfRange = omega arith
-numbered UnknownFlags = omega arith
-numbered BadEnds = omega arith
-numbered UnknownForm = omega arith
-numbered UnsuitedCost = omega arith
-numbered TooManySteps = omega arith
-numbered UnknownLink = omega arith
-numbered UnknownState = omega arith
-numbered ByteAfterEnd = omega arith
-numbered NotATree = omega arith
-numbered TwoSources = omega arith
-numbered FaultWithSource = omega arith
-numbered Overloaded = omega arith
-numbered TooManyOperable = omega arith
-numbered BufferTooShort = omega arith
-
--- ---- a list of tests decides which of the rules above one number and up to another is the first that is broken
+-- ---- a list of tests decides which of the rules from one position up to another is the first that is broken
 
 module _ (P : Rule → Type 0) where
   abbrev KeptTo : ℕ → Type 0
-  KeptTo m = (r : Rule) → ruleNumber r ≤ m → ¬ P r
+  KeptTo m = (r : Rule) → position r < m → ¬ P r
 
   record First (r : Rule) : Type 0 where
     pub broken : P r
-    pub lower : (q : Rule) → ruleNumber q < ruleNumber r → ¬ P q
+    pub sooner : (q : Rule) → Sooner q r → ¬ P q
 
   abbrev Judged : ℕ → Verdict → Type 0
   Judged hi Kept = KeptTo hi
@@ -102,23 +48,22 @@ module _ (P : Rule → Type 0) where
     pub judged : KeptTo lo → Judged hi (firstBroken cs)
 
   -- one rule more is kept
-  kept-more : (lo : ℕ) (r : Rule) → ruleNumber r ≡ lo + 1 → KeptTo lo → ¬ P r → KeptTo (lo + 1)
-  kept-more lo r is kept unbroken q h p = go (leb (ruleNumber q) lo) refl
+  kept-more : (r : Rule) → KeptTo (position r) → ¬ P r → KeptTo (position r + 1)
+  kept-more r kept unbroken q h p = go (ltb (position q) (position r)) refl
     where
-      go : (t : Bool) → leb (ruleNumber q) lo ≡ t → ⊥
-      go true t = kept q (leb-true (ruleNumber q) lo t) p
+      go : (t : Bool) → ltb (position q) (position r) ≡ t → ⊥
+      go true t = kept q (ltb-true (position q) (position r) t) p
       go false t =
-          let above = leb-false (ruleNumber q) lo t in
-          unbroken (subst P (rule-numbered q r (omega (arith, above, h, is))) p)
+          let above = ltb-false (position q) (position r) t in
+          unbroken (subst P (position-once q r (omega (arith, above, h))) p)
 
   decides-none : (lo : ℕ) → Decides lo lo []
   decides-none lo = record { judged = λ kept. kept }
 
-  decides-one : (lo : ℕ) (r : Rule) (t : Bool) → ruleNumber r ≡ lo + 1 → (KeptTo lo → t ≡ true → P r) → (KeptTo lo → t ≡ false → ¬ P r)
-      → {hi : ℕ} {cs : List Check} → Decides (lo + 1) hi cs → Decides lo hi (check r t ∷ cs)
-  decides-one lo r true is breaks keeps rest =
-      record { judged = λ kept. record { broken = breaks kept refl; lower = λ q h. kept q (omega (arith, h, is)) } }
-  decides-one lo r false is breaks keeps rest = record { judged = λ kept. rest .judged (kept-more lo r is kept (keeps kept refl)) }
+  decides-one : (r : Rule) (t : Bool) → (KeptTo (position r) → t ≡ true → P r) → (KeptTo (position r) → t ≡ false → ¬ P r)
+      → {hi : ℕ} {cs : List Check} → Decides (position r + 1) hi cs → Decides (position r) hi (check r t ∷ cs)
+  decides-one r true breaks keeps rest = record { judged = λ kept. record { broken = breaks kept refl; sooner = kept } }
+  decides-one r false breaks keeps rest = record { judged = λ kept. rest .judged (kept-more r kept (keeps kept refl)) }
 
   decides-append : (lo mid hi : ℕ) (a b : List Check) → Decides lo mid a → Decides mid hi b → Decides lo hi (a ++ b)
   decides-append lo mid hi a b first second =
@@ -233,6 +178,56 @@ suits-out form cost e c = go (eqb form 0) refl e
     go true t h = eqb-false cost 0 h (c .fixed (eqb-true form 0 t))
     go false t h = let z : cost ≡ 0 = eqb-true cost 0 (not-false (eqb cost 0) h) in omega (arith, c .switch (eqb-false form 0 t))
 
+-- ---- what is seen of what stands before a record
+
+-- what a record's rules ask is what the paper says of its network: of a link the elements, of a step the links; a rule that asks of an earlier
+-- record has s and the offset to say where that one stands
+abbrev pub Told : (s : List ℕ) (E K at : ℕ) → Stage → Seen → Type 0
+Told s E K at Head seen = Unit
+Told s E K at Elements seen = Unit
+Told s E K at Links seen = seen .elements ≡ E
+Told s E K at End seen = Unit
+Told s E K at PlanHead seen = Unit
+Told s E K at Steps seen = seen .links ≡ K
+Told s E K at PlanEnd seen = Unit
+Told s E K at Over seen = Unit
+
+-- what is seen tells of itself
+pub own-told : (s : List ℕ) (seen : Seen) (at : ℕ) (stage : Stage) → Told s (seen .elements) (seen .links) at stage seen
+own-told s seen at Head = tt
+own-told s seen at Elements = tt
+own-told s seen at Links = refl
+own-told s seen at End = tt
+own-told s seen at PlanHead = tt
+own-told s seen at Steps = refl
+own-told s seen at PlanEnd = tt
+own-told s seen at Over = tt
+
+-- links and steps each have a stage of their own
+link-stage : {stage : Stage} {kind : ℕ} → MayCome stage kind → kind ≡ 3 → stage ≡ Links
+link-stage (next, c) e = go c e
+  where
+    go : {stage : Stage} {kind : ℕ} {next : Stage} → ComesNext stage kind next → kind ≡ 3 → stage ≡ Links
+    go behind-head e = absurd (omega (arith, e))
+    go behind-element e = absurd (omega (arith, e))
+    go behind-link e = refl
+    go behind-end e = absurd (omega (arith, e))
+    go behind-plan-head e = absurd (omega (arith, e))
+    go behind-step e = absurd (omega (arith, e))
+    go behind-plan-end e = absurd (omega (arith, e))
+
+step-stage : {stage : Stage} {kind : ℕ} → MayCome stage kind → kind ≡ 6 → stage ≡ Steps
+step-stage (next, c) e = go c e
+  where
+    go : {stage : Stage} {kind : ℕ} {next : Stage} → ComesNext stage kind next → kind ≡ 6 → stage ≡ Steps
+    go behind-head e = absurd (omega (arith, e))
+    go behind-element e = absurd (omega (arith, e))
+    go behind-link e = absurd (omega (arith, e))
+    go behind-end e = absurd (omega (arith, e))
+    go behind-plan-head e = absurd (omega (arith, e))
+    go behind-step e = refl
+    go behind-plan-end e = absurd (omega (arith, e))
+
 -- ---- the record
 
 module _ (s : List ℕ) (E K at : ℕ) (stage : Stage) where
@@ -240,32 +235,32 @@ module _ (s : List ℕ) (E K at : ℕ) (stage : Stage) where
   P r = BreaksRule s E K at stage r
 
   -- where rule 2 is kept, the kind is one that may come
-  comes : KeptTo P 2 → MayCome stage (kindField s at)
-  comes kept = go (isRefused (nextStage stage (kindField s at))) refl
+  comes : (m : ℕ) → position KindOutOfPlace < m → KeptTo P m → MayCome stage (kindField s at)
+  comes m far kept = go (isRefused (nextStage stage (kindField s at))) refl
     where
       go : (t : Bool) → isRefused (nextStage stage (kindField s at)) ≡ t → MayCome stage (kindField s at)
-      go true t = absurd (kept KindOutOfPlace (omega arith) (may-not-come stage (kindField s at) t))
+      go true t = absurd (kept KindOutOfPlace far (may-not-come stage (kindField s at) t))
       go false t = may-come stage (kindField s at) t
 
-  frame-decides : Decides P 0 4 (frameRules s at stage)
-  unfolding frameRules
+  frame-decides : Decides P (position RecordMissing) (position HeadOutOfRange) (frameRules s at stage)
+  unfolding frameRules position
   frame-decides =
-      decides-one P 0 RecordMissing (ltb (length s - at) 4) refl (λ _ t. ltb-true (length s - at) 4 t)
+      decides-one P RecordMissing (ltb (length s - at) 4) (λ _ t. ltb-true (length s - at) 4 t)
       (λ _ t h. omega (arith, ltb-false (length s - at) 4 t))
-      (decides-one P 1 KindOutOfPlace (isRefused (nextStage stage (kindField s at))) refl (λ _ t. may-not-come stage (kindField s at) t)
+      (decides-one P KindOutOfPlace (isRefused (nextStage stage (kindField s at))) (λ _ t. may-not-come stage (kindField s at) t)
       (λ _ t h. h (may-come stage (kindField s at) t))
-      (decides-one P 2 WrongLength (not (eqb (lengthField s at) (lengthOf (kindField s at)))) refl
+      (decides-one P WrongLength (not (eqb (lengthField s at) (lengthOf (kindField s at))))
       (λ _ t h. eqb-false (lengthField s at) (lengthOf (kindField s at)) (not-true (eqb (lengthField s at) (lengthOf (kindField s at))) t) (length-only h))
       (λ kept t h. h (long kept t))
-      (decides-one P 3 RecordCutOff (ltb (length s - at) (lengthField s at)) refl (λ _ t. ltb-true (length s - at) (lengthField s at) t)
+      (decides-one P RecordCutOff (ltb (length s - at) (lengthField s at)) (λ _ t. ltb-true (length s - at) (lengthField s at) t)
       (λ _ t h. omega (arith, ltb-false (length s - at) (lengthField s at) t))
-      (decides-none P 4))))
+      (decides-none P (position HeadOutOfRange)))))
     where
-      long : KeptTo P 2 → not (eqb (lengthField s at) (lengthOf (kindField s at))) ≡ false → KindLength (kindField s at) (lengthField s at)
+      long : KeptTo P (position WrongLength) → not (eqb (lengthField s at) (lengthOf (kindField s at))) ≡ false → KindLength (kindField s at) (lengthField s at)
       long kept t =
           subst (KindLength (kindField s at))
           (sym (eqb-true (lengthField s at) (lengthOf (kindField s at)) (not-false (eqb (lengthField s at) (lengthOf (kindField s at))) t)))
-          (comes-long stage (kindField s at) (comes kept))
+          (comes-long stage (kindField s at) (comes (position WrongLength) (omega arith) kept))
 
   -- rules 5 to 12, by the kind
   abbrev heads : List Check
@@ -274,112 +269,39 @@ module _ (s : List ℕ) (E K at : ℕ) (stage : Stage) where
   abbrev elements : List Check
   elements = only (eqb (kindField s at) 2) (elementRules s at)
 
-  abbrev links : List Check
-  links = only (eqb (kindField s at) 3) (linkRules s at E)
-
   abbrev plans : List Check
   plans = only (eqb (kindField s at) 5) (planHeadRules s at)
 
-  abbrev steps : List Check
-  steps = only (eqb (kindField s at) 6) (stepRules s at K)
-
-  head-part : Decides P 4 5 heads
-  unfolding headRules
+  head-part : Decides P (position HeadOutOfRange) (position UnknownFlags) heads
+  unfolding headRules position
   head-part =
-      decides-only P 4 5 (eqb (kindField s at) 1) (headRules s at)
-      (λ t. decides-one P 4 HeadOutOfRange (either (eqb (word s (at + 4)) 0) (either (ltb 64 (word s (at + 4))) (ltb 96 (word s (at + 6))))) refl
+      decides-only P (position HeadOutOfRange) (position UnknownFlags) (eqb (kindField s at) 1) (headRules s at)
+      (λ t. decides-one P HeadOutOfRange (either (eqb (word s (at + 4)) 0) (either (ltb 64 (word s (at + 4))) (ltb 96 (word s (at + 6)))))
       (λ _ h. (eqb-true (kindField s at) 1 t, range-out (word s (at + 4)) (word s (at + 6)) h))
-      (λ _ h p. p .1 (range-in (word s (at + 4)) (word s (at + 6)) h)) (decides-none P 5))
-      (λ t kept. kept-more P 4 HeadOutOfRange refl kept (λ p. eqb-false (kindField s at) 1 t (p .0)))
+      (λ _ h p. p .1 (range-in (word s (at + 4)) (word s (at + 6)) h)) (decides-none P (position UnknownFlags)))
+      (λ t kept. kept-more P HeadOutOfRange kept (λ p. eqb-false (kindField s at) 1 t (p .0)))
 
-  element-part : Decides P 5 6 elements
-  unfolding elementRules
+  element-part : Decides P (position UnknownFlags) (position BadEnds) elements
+  unfolding elementRules position
   element-part =
-      decides-only P 5 6 (eqb (kindField s at) 2) (elementRules s at)
-      (λ t. decides-one P 5 UnknownFlags (ltb 3 (word s (at + 8))) refl
+      decides-only P (position UnknownFlags) (position BadEnds) (eqb (kindField s at) 2) (elementRules s at)
+      (λ t. decides-one P UnknownFlags (ltb 3 (word s (at + 8)))
       (λ _ h. (eqb-true (kindField s at) 2 t, ltb-true 3 (word s (at + 8)) h))
-      (λ _ h p. omega (arith, ltb-false 3 (word s (at + 8)) h, p .1)) (decides-none P 6))
-      (λ t kept. kept-more P 5 UnknownFlags refl kept (λ p. eqb-false (kindField s at) 2 t (p .0)))
+      (λ _ h p. omega (arith, ltb-false 3 (word s (at + 8)) h, p .1)) (decides-none P (position BadEnds)))
+      (λ t kept. kept-more P UnknownFlags kept (λ p. eqb-false (kindField s at) 2 t (p .0)))
 
-  ends-out : either (leb E (word s (at + 4))) (either (leb E (word s (at + 6))) (eqb (word s (at + 4)) (word s (at + 6)))) ≡ true
-      → (E ≤ word s (at + 4)) ⊎ ((E ≤ word s (at + 6)) ⊎ (word s (at + 4) ≡ word s (at + 6)))
-  ends-out e =
-      ⊎-elim (λ a. inl (leb-true E (word s (at + 4)) a))
-      (λ b. ⊎-elim (λ c. inr (inl (leb-true E (word s (at + 6)) c))) (λ d. inr (inr (eqb-true (word s (at + 4)) (word s (at + 6)) d)))
-      (either-true (leb E (word s (at + 6))) (eqb (word s (at + 4)) (word s (at + 6))) b))
-      (either-true (leb E (word s (at + 4))) (either (leb E (word s (at + 6))) (eqb (word s (at + 4)) (word s (at + 6)))) e)
-
-  ends-in : either (leb E (word s (at + 4))) (either (leb E (word s (at + 6))) (eqb (word s (at + 4)) (word s (at + 6)))) ≡ false
-      → ¬ ((E ≤ word s (at + 4)) ⊎ ((E ≤ word s (at + 6)) ⊎ (word s (at + 4) ≡ word s (at + 6))))
-  ends-in e x =
-      let t = either-false (leb E (word s (at + 4))) (either (leb E (word s (at + 6))) (eqb (word s (at + 4)) (word s (at + 6)))) e in
-      let u = either-false (leb E (word s (at + 6))) (eqb (word s (at + 4)) (word s (at + 6))) (t .1) in
-      ⊎-elim (λ (a : E ≤ word s (at + 4)). omega (arith, leb-false E (word s (at + 4)) (t .0)))
-      (λ b. ⊎-elim (λ (c : E ≤ word s (at + 6)). omega (arith, leb-false E (word s (at + 6)) (u .0)))
-      (eqb-false (word s (at + 4)) (word s (at + 6)) (u .1)) b) x
-
-  link-part : Decides P 6 9 links
-  unfolding linkRules
-  link-part =
-      decides-only P 6 9 (eqb (kindField s at) 3) (linkRules s at E)
-      (λ t. decides-one P 6 BadEnds (either (leb E (word s (at + 4))) (either (leb E (word s (at + 6))) (eqb (word s (at + 4)) (word s (at + 6))))) refl
-      (λ _ h. (eqb-true (kindField s at) 3 t, ends-out h)) (λ _ h p. ends-in h (p .1))
-      (decides-one P 7 UnknownForm (ltb 2 (word s (at + 8))) refl
-      (λ _ h. (eqb-true (kindField s at) 3 t, ltb-true 2 (word s (at + 8)) h))
-      (λ _ h p. omega (arith, ltb-false 2 (word s (at + 8)) h, p .1))
-      (decides-one P 8 UnsuitedCost (not (suits (word s (at + 8)) (word s (at + 10)))) refl
-      (λ _ h. (eqb-true (kindField s at) 3 t, suits-out (word s (at + 8)) (word s (at + 10)) (not-true (suits (word s (at + 8)) (word s (at + 10))) h)))
-      (λ _ h p. p .1 (suits-in (word s (at + 8)) (word s (at + 10)) (not-false (suits (word s (at + 8)) (word s (at + 10))) h)))
-      (decides-none P 9))))
-      (λ t kept.
-      kept-more P 8 UnsuitedCost refl
-      (kept-more P 7 UnknownForm refl
-      (kept-more P 6 BadEnds refl kept (λ p. eqb-false (kindField s at) 3 t (p .0)))
-      (λ p. eqb-false (kindField s at) 3 t (p .0)))
-      (λ p. eqb-false (kindField s at) 3 t (p .0)))
-
-  plan-part : Decides P 9 10 plans
-  unfolding planHeadRules
+  plan-part : Decides P (position TooManySteps) (position UnknownLink) plans
+  unfolding planHeadRules position
   plan-part =
-      decides-only P 9 10 (eqb (kindField s at) 5) (planHeadRules s at)
-      (λ t. decides-one P 9 TooManySteps (ltb 255 (word s (at + 4))) refl
+      decides-only P (position TooManySteps) (position UnknownLink) (eqb (kindField s at) 5) (planHeadRules s at)
+      (λ t. decides-one P TooManySteps (ltb 255 (word s (at + 4)))
       (λ _ h. (eqb-true (kindField s at) 5 t, ltb-true 255 (word s (at + 4)) h))
-      (λ _ h p. omega (arith, ltb-false 255 (word s (at + 4)) h, p .1)) (decides-none P 10))
-      (λ t kept. kept-more P 9 TooManySteps refl kept (λ p. eqb-false (kindField s at) 5 t (p .0)))
-
-  step-part : Decides P 10 12 steps
-  unfolding stepRules
-  step-part =
-      decides-only P 10 12 (eqb (kindField s at) 6) (stepRules s at K)
-      (λ t. decides-one P 10 UnknownLink (leb K (word s (at + 4))) refl
-      (λ _ h. (eqb-true (kindField s at) 6 t, leb-true K (word s (at + 4)) h))
-      (λ _ h p. omega (arith, leb-false K (word s (at + 4)) h, p .1))
-      (decides-one P 11 UnknownState (ltb 1 (word s (at + 6))) refl
-      (λ _ h. (eqb-true (kindField s at) 6 t, ltb-true 1 (word s (at + 6)) h))
-      (λ _ h p. omega (arith, ltb-false 1 (word s (at + 6)) h, p .1))
-      (decides-none P 12)))
-      (λ t kept.
-      kept-more P 11 UnknownState refl
-      (kept-more P 10 UnknownLink refl kept (λ p. eqb-false (kindField s at) 6 t (p .0)))
-      (λ p. eqb-false (kindField s at) 6 t (p .0)))
-
-  fields-decide : Decides P 4 12 (fieldRules s at (kindField s at) E K)
-  unfolding fieldRules
-  fields-decide =
-      decides-append P 4 10 12 (heads ++ elements ++ links ++ plans) steps
-      (decides-append P 4 9 10 (heads ++ elements ++ links) plans
-      (decides-append P 4 6 9 (heads ++ elements) links
-      (decides-append P 4 5 6 heads elements head-part element-part)
-      link-part)
-      plan-part)
-      step-part
-
-  rules-decide : Decides P 0 12 (recordRules s E K at stage)
-  unfolding recordRules
-  rules-decide = decides-append P 0 4 12 (frameRules s at stage) (fieldRules s at (kindField s at) E K) frame-decides fields-decide
+      (λ _ h p. omega (arith, ltb-false 255 (word s (at + 4)) h, p .1)) (decides-none P (position UnknownLink)))
+      (λ t kept. kept-more P TooManySteps kept (λ p. eqb-false (kindField s at) 5 t (p .0)))
 
   -- rules 13 to 19 speak of no record
-  beyond : (r : Rule) → 12 < ruleNumber r → ¬ P r
+  beyond : (r : Rule) → position ByteAfterEnd ≤ position r → ¬ P r
+  unfolding position
   beyond RecordMissing h = absurd (omega arith)
   beyond KindOutOfPlace h = absurd (omega arith)
   beyond WrongLength h = absurd (omega arith)
@@ -400,71 +322,163 @@ module _ (s : List ℕ) (E K at : ℕ) (stage : Stage) where
   beyond TooManyOperable h = λ x. x
   beyond BufferTooShort h = λ x. x
 
-  pub keeps-to : ((r : Rule) → ruleNumber r ≤ 12 → ¬ P r) → Keeps s E K at stage
-  keeps-to kept r = go (ltb 12 (ruleNumber r)) refl
+  pub keeps-to : KeptTo P (position ByteAfterEnd) → Keeps s E K at stage
+  keeps-to kept r = go (ltb (position r) (position ByteAfterEnd)) refl
     where
-      go : (t : Bool) → ltb 12 (ruleNumber r) ≡ t → ¬ P r
-      go true t = beyond r (ltb-true 12 (ruleNumber r) t)
-      go false t = kept r (ltb-false 12 (ruleNumber r) t)
-
-  abbrev Verdicts : Verdict → Type 0
-  Verdicts Kept = Keeps s E K at stage
-  Verdicts (Broken r) = BreaksFirst s E K at stage r
-
-  -- what the reader's tests find is what the record breaks
-  rules-judged : Verdicts (firstBroken (recordRules s E K at stage))
-  rules-judged = go (firstBroken (recordRules s E K at stage)) (rules-decide .judged (λ r h p. none-zero r h))
-    where
-      none-zero : (r : Rule) → ruleNumber r ≤ 0 → ⊥
-      none-zero r h = omega (arith, h, numbered r)
-
-      go : (v : Verdict) → Judged P 12 v → Verdicts v
-      go Kept h = keeps-to h
-      go (Broken r) h = record { broken = h .broken; lower = h .lower }
+      go : (t : Bool) → ltb (position r) (position ByteAfterEnd) ≡ t → ¬ P r
+      go true t = kept r (ltb-true (position r) (position ByteAfterEnd) t)
+      go false t = beyond r (ltb-false (position r) (position ByteAfterEnd) t)
 
   -- one first rule
   pub breaks-once : (q r : Rule) → BreaksFirst s E K at stage q → BreaksFirst s E K at stage r → q ≡ r
-  breaks-once q r a b = rule-numbered q r (go (ltb (ruleNumber q) (ruleNumber r)) refl (ltb (ruleNumber r) (ruleNumber q)) refl)
+  breaks-once q r a b = position-once q r (go (ltb (position q) (position r)) refl (ltb (position r) (position q)) refl)
     where
-      go : (t : Bool) → ltb (ruleNumber q) (ruleNumber r) ≡ t → (u : Bool) → ltb (ruleNumber r) (ruleNumber q) ≡ u → ruleNumber q ≡ ruleNumber r
-      go true t u e = absurd (b .lower q (ltb-true (ruleNumber q) (ruleNumber r) t) (a .broken))
-      go false t true u = absurd (a .lower r (ltb-true (ruleNumber r) (ruleNumber q) u) (b .broken))
-      go false t false u = omega (arith, ltb-false (ruleNumber q) (ruleNumber r) t, ltb-false (ruleNumber r) (ruleNumber q) u)
+      go : (t : Bool) → ltb (position q) (position r) ≡ t → (u : Bool) → ltb (position r) (position q) ≡ u → position q ≡ position r
+      go true t u e = absurd (b .sooner q (ltb-true (position q) (position r) t) (a .broken))
+      go false t true u = absurd (a .sooner r (ltb-true (position r) (position q) u) (b .broken))
+      go false t false u = omega (arith, ltb-false (position q) (position r) t, ltb-false (position r) (position q) u)
 
   pub keeps-unbroken : (r : Rule) → Keeps s E K at stage → ¬ BreaksFirst s E K at stage r
   keeps-unbroken r kept b = kept r (b .broken)
 
-  -- ---- the record as the reader finds it
+  -- rule 7 in a network of n elements
+  abbrev BadEndsIn : ℕ → Type 0
+  BadEndsIn n = (n ≤ word s (at + 4)) ⊎ ((n ≤ word s (at + 6)) ⊎ (word s (at + 4) ≡ word s (at + 6)))
 
-  pub due-breaks : (f : Refusal) → dueAt s E K at stage ≡ Refused f → BreaksFirst s E K at stage (f .rule) × (f .place ≡ at)
-  due-breaks f e =
-      let d = due-refused s E K at stage e in
-      (subst Verdicts (d .0) rules-judged, d .1)
+  ends-out : (n : ℕ) → either (leb n (word s (at + 4))) (either (leb n (word s (at + 6))) (eqb (word s (at + 4)) (word s (at + 6)))) ≡ true
+      → BadEndsIn n
+  ends-out n e =
+      ⊎-elim (λ a. inl (leb-true n (word s (at + 4)) a))
+      (λ b. ⊎-elim (λ c. inr (inl (leb-true n (word s (at + 6)) c))) (λ d. inr (inr (eqb-true (word s (at + 4)) (word s (at + 6)) d)))
+      (either-true (leb n (word s (at + 6))) (eqb (word s (at + 4)) (word s (at + 6))) b))
+      (either-true (leb n (word s (at + 4))) (either (leb n (word s (at + 6))) (eqb (word s (at + 4)) (word s (at + 6)))) e)
 
-  pub due-keeps : {kind long : ℕ} {next : Stage} → dueAt s E K at stage ≡ Record kind long next → Keeps s E K at stage
-  due-keeps e = subst Verdicts (due-kept s E K at stage e .kept) rules-judged
+  ends-in : (n : ℕ) → either (leb n (word s (at + 4))) (either (leb n (word s (at + 6))) (eqb (word s (at + 4)) (word s (at + 6)))) ≡ false
+      → ¬ BadEndsIn n
+  ends-in n e x =
+      let t = either-false (leb n (word s (at + 4))) (either (leb n (word s (at + 6))) (eqb (word s (at + 4)) (word s (at + 6)))) e in
+      let u = either-false (leb n (word s (at + 6))) (eqb (word s (at + 4)) (word s (at + 6))) (t .1) in
+      ⊎-elim (λ (a : n ≤ word s (at + 4)). omega (arith, leb-false n (word s (at + 4)) (t .0)))
+      (λ b. ⊎-elim (λ (c : n ≤ word s (at + 6)). omega (arith, leb-false n (word s (at + 6)) (u .0)))
+      (eqb-false (word s (at + 4)) (word s (at + 6)) (u .1)) b) x
 
-  -- and both ways: the contract of `record_due`, `Reader::due` and `Reader::next` in the paper's words
-  pub record-refused : (f : Refusal) → (dueAt s E K at stage ≡ Refused f) ↔ (BreaksFirst s E K at stage (f .rule) × (f .place ≡ at))
-  record-refused f = (due-breaks f, λ b. go b (dueAt s E K at stage) refl)
-    where
-      go : BreaksFirst s E K at stage (f .rule) × (f .place ≡ at) → (d : Found) → dueAt s E K at stage ≡ d → dueAt s E K at stage ≡ Refused f
-      go b (Record kind long next) e = absurd (keeps-unbroken (f .rule) (due-keeps e) (b .0))
-      go b (Refused g) e =
-          let d = due-breaks g e in
-          e ∙ (λ i. Refused (record { rule = breaks-once (g .rule) (f .rule) (d .0) (b .0) i; place = (d .1 ∙ sym (b .1)) i }))
+  -- ---- the record as the reader finds it, by what it has seen
 
-  -- what is found: the fields of the record that is due, and the stage that follows
-  pub record-found : (kind long : ℕ) (next : Stage)
-      → (dueAt s E K at stage ≡ Record kind long next) ↔ (Keeps s E K at stage × (kind ≡ kindField s at) × (long ≡ lengthField s at) × ComesNext stage kind next)
-  record-found kind long next = (
-    λ e. let k = due-kept s E K at stage e in (due-keeps e, k .framed .kind-is, k .framed .long-is, comes-next stage kind next (k .framed .goes)),
-    λ x. go x (dueAt s E K at stage) refl,
-  )
-    where
-      go : Keeps s E K at stage × (kind ≡ kindField s at) × (long ≡ lengthField s at) × ComesNext stage kind next
-          → (d : Found) → dueAt s E K at stage ≡ d → dueAt s E K at stage ≡ Record kind long next
-      go (keeps, k, l, f) (Refused r) e = absurd (keeps-unbroken (r .rule) keeps (due-breaks r e .0))
-      go (keeps, k, l, f) (Record kind′ long′ next′) e =
-          let d = due-kept s E K at stage e in
-          e ∙ (λ i. Record ((d .framed .kind-is ∙ sym k) i) ((d .framed .long-is ∙ sym l) i) (comes-once (subst (λ (x : ℕ). ComesNext stage x next′) (d .framed .kind-is ∙ sym k) (comes-next stage kind′ next′ (d .framed .goes))) f i))
+  module _ (seen : Seen) (told : Told s E K at stage seen) where
+    elements-told : KeptTo P (position BadEnds) → kindField s at ≡ 3 → seen .elements ≡ E
+    unfolding position
+    elements-told kept e = subst (λ (st : Stage). Told s E K at st seen) (link-stage (comes (position BadEnds) (omega arith) kept) e) told
+
+    links-told : KeptTo P (position UnknownLink) → kindField s at ≡ 6 → seen .links ≡ K
+    unfolding position
+    links-told kept e = subst (λ (st : Stage). Told s E K at st seen) (step-stage (comes (position UnknownLink) (omega arith) kept) e) told
+
+    abbrev links : List Check
+    links = only (eqb (kindField s at) 3) (linkRules s at (seen .elements))
+
+    abbrev steps : List Check
+    steps = only (eqb (kindField s at) 6) (stepRules s at (seen .links))
+
+    link-part : Decides P (position BadEnds) (position TooManySteps) links
+    unfolding linkRules position
+    link-part =
+        decides-only P (position BadEnds) (position TooManySteps) (eqb (kindField s at) 3) (linkRules s at (seen .elements))
+        (λ t. decides-one P BadEnds (either (leb (seen .elements) (word s (at + 4))) (either (leb (seen .elements) (word s (at + 6))) (eqb (word s (at + 4)) (word s (at + 6)))))
+        (λ kept h.
+        let link = eqb-true (kindField s at) 3 t in
+        (link, subst BadEndsIn (elements-told kept link) (ends-out (seen .elements) h)))
+        (λ kept h p. ends-in (seen .elements) h (subst BadEndsIn (sym (elements-told kept (p .0))) (p .1)))
+        (decides-one P UnknownForm (ltb 2 (word s (at + 8)))
+        (λ _ h. (eqb-true (kindField s at) 3 t, ltb-true 2 (word s (at + 8)) h))
+        (λ _ h p. omega (arith, ltb-false 2 (word s (at + 8)) h, p .1))
+        (decides-one P UnsuitedCost (not (suits (word s (at + 8)) (word s (at + 10))))
+        (λ _ h. (eqb-true (kindField s at) 3 t, suits-out (word s (at + 8)) (word s (at + 10)) (not-true (suits (word s (at + 8)) (word s (at + 10))) h)))
+        (λ _ h p. p .1 (suits-in (word s (at + 8)) (word s (at + 10)) (not-false (suits (word s (at + 8)) (word s (at + 10))) h)))
+        (decides-none P (position TooManySteps)))))
+        (λ t kept.
+        kept-more P UnsuitedCost
+        (kept-more P UnknownForm
+        (kept-more P BadEnds kept (λ p. eqb-false (kindField s at) 3 t (p .0)))
+        (λ p. eqb-false (kindField s at) 3 t (p .0)))
+        (λ p. eqb-false (kindField s at) 3 t (p .0)))
+
+    step-part : Decides P (position UnknownLink) (position ByteAfterEnd) steps
+    unfolding stepRules position
+    step-part =
+        decides-only P (position UnknownLink) (position ByteAfterEnd) (eqb (kindField s at) 6) (stepRules s at (seen .links))
+        (λ t. decides-one P UnknownLink (leb (seen .links) (word s (at + 4)))
+        (λ kept h.
+        let step = eqb-true (kindField s at) 6 t in
+        (step, omega (arith, links-told kept step, leb-true (seen .links) (word s (at + 4)) h)))
+        (λ kept h p. omega (arith, links-told kept (p .0), leb-false (seen .links) (word s (at + 4)) h, p .1))
+        (decides-one P UnknownState (ltb 1 (word s (at + 6)))
+        (λ _ h. (eqb-true (kindField s at) 6 t, ltb-true 1 (word s (at + 6)) h))
+        (λ _ h p. omega (arith, ltb-false 1 (word s (at + 6)) h, p .1))
+        (decides-none P (position ByteAfterEnd))))
+        (λ t kept.
+        kept-more P UnknownState
+        (kept-more P UnknownLink kept (λ p. eqb-false (kindField s at) 6 t (p .0)))
+        (λ p. eqb-false (kindField s at) 6 t (p .0)))
+
+    fields-decide : Decides P (position HeadOutOfRange) (position ByteAfterEnd) (fieldRules s at (kindField s at) seen)
+    unfolding fieldRules
+    fields-decide =
+        decides-append P (position HeadOutOfRange) (position UnknownLink) (position ByteAfterEnd) (heads ++ elements ++ links ++ plans) steps
+        (decides-append P (position HeadOutOfRange) (position TooManySteps) (position UnknownLink) (heads ++ elements ++ links) plans
+        (decides-append P (position HeadOutOfRange) (position BadEnds) (position TooManySteps) (heads ++ elements) links
+        (decides-append P (position HeadOutOfRange) (position UnknownFlags) (position BadEnds) heads elements head-part element-part)
+        link-part)
+        plan-part)
+        step-part
+
+    rules-decide : Decides P (position RecordMissing) (position ByteAfterEnd) (recordRules s seen at stage)
+    unfolding recordRules
+    rules-decide =
+        decides-append P (position RecordMissing) (position HeadOutOfRange) (position ByteAfterEnd) (frameRules s at stage)
+        (fieldRules s at (kindField s at) seen) frame-decides fields-decide
+
+    abbrev Verdicts : Verdict → Type 0
+    Verdicts Kept = Keeps s E K at stage
+    Verdicts (Broken r) = BreaksFirst s E K at stage r
+
+    -- what the reader's tests find is what the record breaks
+    rules-judged : Verdicts (firstBroken (recordRules s seen at stage))
+    unfolding position
+    rules-judged = go (firstBroken (recordRules s seen at stage)) (rules-decide .judged (λ r h p. omega (arith, h)))
+      where
+        go : (v : Verdict) → Judged P (position ByteAfterEnd) v → Verdicts v
+        go Kept h = keeps-to h
+        go (Broken r) h = record { broken = h .broken; sooner = h .sooner }
+
+    pub due-breaks : (f : Refusal) → dueAt s seen at stage ≡ Refused f → BreaksFirst s E K at stage (f .rule) × (f .place ≡ at)
+    due-breaks f e =
+        let d = due-refused s seen at stage e in
+        (subst Verdicts (d .0) rules-judged, d .1)
+
+    pub due-keeps : {kind long : ℕ} {next : Stage} → dueAt s seen at stage ≡ Record kind long next → Keeps s E K at stage
+    due-keeps e = subst Verdicts (due-kept s seen at stage e .kept) rules-judged
+
+    -- and both ways: the contract of `record_due`, `Reader::due` and `Reader::next` in the paper's words
+    pub record-refused : (f : Refusal) → (dueAt s seen at stage ≡ Refused f) ↔ (BreaksFirst s E K at stage (f .rule) × (f .place ≡ at))
+    record-refused f = (due-breaks f, λ b. go b (dueAt s seen at stage) refl)
+      where
+        go : BreaksFirst s E K at stage (f .rule) × (f .place ≡ at) → (d : Found) → dueAt s seen at stage ≡ d → dueAt s seen at stage ≡ Refused f
+        go b (Record kind long next) e = absurd (keeps-unbroken (f .rule) (due-keeps e) (b .0))
+        go b (Refused g) e =
+            let d = due-breaks g e in
+            e ∙ (λ i. Refused (record { rule = breaks-once (g .rule) (f .rule) (d .0) (b .0) i; place = (d .1 ∙ sym (b .1)) i }))
+
+    -- what is found: the fields of the record that is due, and the stage that follows
+    pub record-found : (kind long : ℕ) (next : Stage)
+        → (dueAt s seen at stage ≡ Record kind long next) ↔ (Keeps s E K at stage × (kind ≡ kindField s at) × (long ≡ lengthField s at) × ComesNext stage kind next)
+    record-found kind long next = (
+      λ e. let k = due-kept s seen at stage e in (due-keeps e, k .framed .kind-is, k .framed .long-is, comes-next stage kind next (k .framed .goes)),
+      λ x. go x (dueAt s seen at stage) refl,
+    )
+      where
+        go : Keeps s E K at stage × (kind ≡ kindField s at) × (long ≡ lengthField s at) × ComesNext stage kind next
+            → (d : Found) → dueAt s seen at stage ≡ d → dueAt s seen at stage ≡ Record kind long next
+        go (keeps, k, l, f) (Refused r) e = absurd (keeps-unbroken (r .rule) keeps (due-breaks r e .0))
+        go (keeps, k, l, f) (Record kind′ long′ next′) e =
+            let d = due-kept s seen at stage e in
+            e ∙ (λ i. Record ((d .framed .kind-is ∙ sym k) i) ((d .framed .long-is ∙ sym l) i) (comes-once (subst (λ (x : ℕ). ComesNext stage x next′) (d .framed .kind-is ∙ sym k) (comes-next stage kind′ next′ (d .framed .goes))) f i))

@@ -14,19 +14,21 @@ use Rattle.network.specs.declared.Network.{Network}
 use Rattle.network.specs.Networks.{emptyNetwork}
 use Rattle.file_stages.specs.declared.Stage.{Stage}
 use Rattle.file_stages.specs.declared.Stage.the-variants.{Head, Elements, Links}
+use Rattle.file_fields.specs.declared.Seen.{Seen}
 use Rattle.file_fields.specs.Fields.{word}
+use Rattle.file_fields.specs.Views.{nothingSeen, networkSeen}
 use Rattle.file_records.specs.Records.{dueAt}
 use Rattle.file_records.specs.declared.Found.the-variants.{Record}
-use Rattle.file_network.specs.Runs.{Reading, refused, reached, readOn, records}
+use Rattle.file_network.specs.Runs.{Reading, refused, reached, readOn, records, always}
 use Rattle.file_network.specs.NetworkFiles.{elementOf, linkOf, withElement, withLink, networkFile}
-use Rattle.file_network.proofs.Runs.{records-keep, run-same}
+use Rattle.file_network.proofs.Runs.{records-keep, run-same, run-count}
 use Rattle.file_network.proofs.Parts.{headRun, elementsRun, linksRun, endRun, withElements, withLinks, network-chain}
 use Rattle.file_network.proofs.Sizes.{head-read, LinksRead, network-size}
 use Rattle.file_network.proofs.Contents.{NetworkHolds, network-holds}
 use Rattle.file_refusals.specs.Files.{Stand}
 use Rattle.file_refusals.specs.Stated.{ElementIs, LinkIs, States}
-use Rattle.file_refusals.proofs.Files.{stand-append, stand-once, Ran, many-ran}
-use Rattle.file_refusals.proofs.Inputs.{head-ran}
+use Rattle.file_refusals.proofs.Files.{stand-append, stand-once, Ran}
+use Rattle.file_refusals.proofs.Inputs.{head-ran, elements-run-ran, links-run-ran}
 
 pub zeros : (k i : ℕ) → _≡_ {A = ℕ} (getD (replicate k 0) i 0) 0
 zeros zero zero = refl
@@ -36,14 +38,14 @@ zeros (suc k) (suc i) = zeros k i
 
 -- ---- behind the last record nothing is kept
 
-module _ {A B : Type 0} (s : List ℕ) (E K : ℕ) (into : ℕ → A → A) (list : A → List B) (count : A → ℕ) (entry : ℕ → B) (d : B)
+module _ {A B : Type 0} (s : List ℕ) (seen : A → Seen) (into : ℕ → A → A) (list : A → List B) (count : A → ℕ) (entry : ℕ → B) (d : B)
     (sets : (at : ℕ) (a : A) → list (into at a) ≡ set (list a) (count a) (entry at)) (counts : (at : ℕ) (a : A) → count (into at a) ≡ count a + 1) where
-  pub run-beyond : (n at : ℕ) (stage : Stage) (a : A) (end : ℕ) (last : Stage) (b : A) → records s E K into n at stage a ≡ reached end last b
+  pub run-beyond : (n at : ℕ) (stage : Stage) (a : A) (end : ℕ) (last : Stage) (b : A) → records s seen into n at stage a ≡ reached end last b
       → (i : ℕ) → count a + n ≤ i → getD (list b) i d ≡ getD (list a) i d
   run-beyond n at stage a end last b run i h =
-      records-keep s E K into (λ m at′ stage′ a′. (count a′ + m ≡ count a + n) × (getD (list a′) i d ≡ getD (list a) i d)) step n at stage a end last b (refl, refl) run .1
+      records-keep s seen into (λ m at′ stage′ a′. (count a′ + m ≡ count a + n) × (getD (list a′) i d ≡ getD (list a) i d)) step n at stage a end last b (refl, refl) run .1
     where
-      step : (m at′ : ℕ) (stage′ : Stage) (a′ : A) (kind long : ℕ) (next : Stage) → dueAt s E K at′ stage′ ≡ Record kind long next
+      step : (m at′ : ℕ) (stage′ : Stage) (a′ : A) (kind long : ℕ) (next : Stage) → dueAt s (seen a′) at′ stage′ ≡ Record kind long next
           → (count a′ + suc m ≡ count a + n) × (getD (list a′) i d ≡ getD (list a) i d)
           → (count (into at′ a′) + m ≡ count a + n) × (getD (list (into at′ a′)) i d ≡ getD (list a) i d)
       step m at′ stage′ a′ kind long next due p =
@@ -82,20 +84,21 @@ module _ (s : List ℕ) where
       go (reached p st m) h k = head-of-links h
 
 module _ (s : List ℕ) (at : ℕ) (stage : Stage) (n : Network) (file : networkFile s ≡ reached at stage n) where
-  elements-stand : (i place : ℕ) (value : Network) → records s 0 0 (withElement s) i 8 Elements emptyNetwork ≡ reached place Elements value
+  elements-stand : (i place : ℕ) (value : Network) → records s (always nothingSeen) (withElement s) i 8 Elements emptyNetwork ≡ reached place Elements value
       → Stand s (word s 4) (word s 6) (Head ∷ replicate i Elements) 0 place
   elements-stand i place value e =
       stand-append s (word s 4) (word s 6) (head-of-file s file)
       (subst (Ran s (word s 4) (word s 6) (replicate i Elements) 8) e
-      (many-ran s 0 0 (word s 4) (word s 6) (withElement s) i 8 Elements emptyNetwork refl tt))
+      (elements-run-ran s i 8 emptyNetwork))
 
-  links-stand : (l place from : ℕ) (value m : Network) → records s 0 0 (withElement s) (word s 4) 8 Elements emptyNetwork ≡ reached from Elements m
-      → records s (word s 4) 0 (withLink s) l from Links m ≡ reached place Links value
+  links-stand : (l place from : ℕ) (value m : Network) → records s (always nothingSeen) (withElement s) (word s 4) 8 Elements emptyNetwork ≡ reached from Elements m
+      → records s networkSeen (withLink s) l from Links m ≡ reached place Links value
       → Stand s (word s 4) (word s 6) ((Head ∷ replicate (word s 4) Elements) ++ replicate l Links) 0 place
+  unfolding withElement emptyNetwork
   links-stand l place from value m e f =
       stand-append s (word s 4) (word s 6) (elements-stand (word s 4) from m e)
       (subst (Ran s (word s 4) (word s 6) (replicate l Links) from) f
-      (many-ran s (word s 4) 0 (word s 4) (word s 6) (withLink s) l from Links m refl refl))
+      (links-run-ran s l from m (omega (arith, run-count s (always nothingSeen) (withElement s) (word s 4) 8 Elements emptyNetwork from Elements m e (λ n. n .elements) (λ at n. refl)))))
 
   -- what the records leave behind the last of theirs
   module _ {last : ℕ} (links : LinksRead s last Links n) (list : Network → List ℕ) (entry : ℕ → ℕ) (i : ℕ) where
@@ -104,8 +107,8 @@ module _ (s : List ℕ) (at : ℕ) (stage : Stage) (n : Network) (file : network
         → ((a : ℕ) (m : Network) → list (withLink s a m) ≡ list m) → getD (list emptyNetwork) i 0 ≡ 0 → word s 4 ≤ i → getD (list n) i 0 ≡ 0
     unfolding withElement emptyNetwork
     element-beyond sets keeps none h =
-        ap (λ (l : List ℕ). getD l i 0) (run-same s (word s 4) 0 (withLink s) (word s 6) (links .start) Links (links .before) last Links n (links .run) list keeps)
-        ∙ run-beyond s 0 0 (withElement s) list (λ m. m .elements) entry 0 sets (λ a m. refl) (word s 4) 8 Elements emptyNetwork (links .start) Elements (links .before) (links .elements .run) i (omega arith)
+        ap (λ (l : List ℕ). getD l i 0) (run-same s networkSeen (withLink s) (word s 6) (links .start) Links (links .before) last Links n (links .run) list keeps)
+        ∙ run-beyond s (always nothingSeen) (withElement s) list (λ m. m .elements) entry 0 sets (λ a m. refl) (word s 4) 8 Elements emptyNetwork (links .start) Elements (links .before) (links .elements .run) i (omega arith)
         ∙ none
 
     -- a list of the links, which elements leave as it is
@@ -113,9 +116,9 @@ module _ (s : List ℕ) (at : ℕ) (stage : Stage) (n : Network) (file : network
         → ((a : ℕ) (m : Network) → list (withElement s a m) ≡ list m) → getD (list emptyNetwork) i 0 ≡ 0 → word s 6 ≤ i → getD (list n) i 0 ≡ 0
     unfolding withLink
     link-beyond sets keeps none h =
-        run-beyond s (word s 4) 0 (withLink s) list (λ m. m .links) entry 0 sets (λ a m. refl) (word s 6) (links .start) Links (links .before) last Links n (links .run) i
+        run-beyond s networkSeen (withLink s) list (λ m. m .links) entry 0 sets (λ a m. refl) (word s 6) (links .start) Links (links .before) last Links n (links .run) i
         (omega (arith, links .elements .links-are))
-        ∙ ap (λ (l : List ℕ). getD l i 0) (run-same s 0 0 (withElement s) (word s 4) 8 Elements emptyNetwork (links .start) Elements (links .before) (links .elements .run) list keeps)
+        ∙ ap (λ (l : List ℕ). getD l i 0) (run-same s (always nothingSeen) (withElement s) (word s 4) 8 Elements emptyNetwork (links .start) Elements (links .before) (links .elements .run) list keeps)
         ∙ none
 
   pub file-states : States s n

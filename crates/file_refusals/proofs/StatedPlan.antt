@@ -14,8 +14,9 @@ use Rattle.network.specs.declared.refusal.Refusal.{Refusal}
 use Rattle.file_stages.specs.declared.Stage.{Stage}
 use Rattle.file_stages.specs.declared.Stage.the-variants.{PlanHead, Steps}
 use Rattle.file_fields.specs.Fields.{word}
+use Rattle.file_fields.specs.Views.{linksSeen}
 use Rattle.file_records.proofs.Due.{step-kept}
-use Rattle.file_network.specs.Runs.{Reading, refused, reached, readOn, records}
+use Rattle.file_network.specs.Runs.{Reading, refused, reached, readOn, records, always}
 use Rattle.file_plan.specs.declared.plan.Plan.{Plan}
 use Rattle.file_plan.specs.PlanFiles.{emptyPlan, withStep, planFile}
 use Rattle.file_plan.proofs.Parts.{planHeadRun, stepsRun, planEndRun, withSteps, plan-chain}
@@ -23,8 +24,8 @@ use Rattle.file_plan.proofs.Sizes.{plan-head-read, StepsRead, PlanSize, plan-si
 use Rattle.file_plan.proofs.Contents.{PlanHolds, StepAt, plan-holds}
 use Rattle.file_refusals.specs.Files.{Stand}
 use Rattle.file_refusals.specs.Stated.{StepIs, StatesPlan}
-use Rattle.file_refusals.proofs.Files.{stand-append, stand-once, Ran, many-ran}
-use Rattle.file_refusals.proofs.Inputs.{plan-head-ran}
+use Rattle.file_refusals.proofs.Files.{stand-append, stand-once, Ran}
+use Rattle.file_refusals.proofs.Inputs.{plan-head-ran, steps-run-ran}
 use Rattle.file_refusals.proofs.Stated.{zeros, run-beyond}
 
 opens-all : (k i : ℕ) → getD (replicate k false) i false ≡ false
@@ -61,12 +62,12 @@ module _ (s : List ℕ) (head : ℕ) where
       go (reached a st q) h k = head-of-steps h
 
 module _ (s : List ℕ) (head at : ℕ) (stage : Stage) (p : Plan) (file : planFile s (word s 6) head ≡ reached at stage p) where
-  steps-stand : (i place : ℕ) (value : Plan) → records s 0 (word s 6) (withStep s) i (head + 6) Steps emptyPlan ≡ reached place Steps value
+  steps-stand : (i place : ℕ) (value : Plan) → records s (always (linksSeen (word s 6))) (withStep s) i (head + 6) Steps emptyPlan ≡ reached place Steps value
       → Stand s (word s 4) (word s 6) (PlanHead ∷ replicate i Steps) head place
   steps-stand i place value e =
       stand-append s (word s 4) (word s 6) (head-of-plan s head file)
       (subst (Ran s (word s 4) (word s 6) (replicate i Steps) (head + 6)) e
-      (many-ran s 0 (word s 6) (word s 4) (word s 6) (withStep s) i (head + 6) Steps emptyPlan refl refl))
+      (steps-run-ran s i (head + 6) emptyPlan))
 
   holds : PlanHolds s (word s 6) head p
   holds = plan-holds s (word s 6) head at stage p file
@@ -83,7 +84,7 @@ module _ (s : List ℕ) (head at : ℕ) (stage : Stage) (p : Plan) (file : planF
             let is : e .found .place ≡ place = stand-once s (word s 4) (word s 6) (steps-stand i (e .found .place) (e .found .value) (e .found .before)) stand in
             subst (λ (a : ℕ). StepIs p i (word s (a + 4)) (word s (a + 6))) is (step-is i e);
         no-step = λ i h. record {
-          link-is = run-beyond s 0 (word s 6) (withStep s) (λ q. q .link) (λ q. q .steps) (λ a. word s (a + 4)) 0 (λ a q. refl) (λ a q. refl)
+          link-is = run-beyond s (always (linksSeen (word s 6))) (withStep s) (λ q. q .link) (λ q. q .steps) (λ a. word s (a + 4)) 0 (λ a q. refl) (λ a q. refl)
               (word s (head + 4)) (head + 6) Steps emptyPlan (size .steps-end) Steps p (read .run) i (omega arith) ∙ zeros 255 i;
           opens = λ _. closes-none i h;
           closes = λ e. absurd (omega (arith, e));
@@ -105,7 +106,7 @@ module _ (s : List ℕ) (head at : ℕ) (stage : Stage) (p : Plan) (file : planF
 
       closes-none : (i : ℕ) → word s (head + 4) ≤ i → getD (p .close) i false ≡ false
       closes-none i h =
-          run-beyond s 0 (word s 6) (withStep s) (λ q. q .close) (λ q. q .steps) (λ a. eqb (word s (a + 6)) 1) false (λ a q. refl) (λ a q. refl)
+          run-beyond s (always (linksSeen (word s 6))) (withStep s) (λ q. q .close) (λ q. q .steps) (λ a. eqb (word s (a + 6)) 1) false (λ a q. refl) (λ a q. refl)
           (word s (head + 4)) (head + 6) Steps emptyPlan (size .steps-end) Steps p (read .run) i (omega arith) ∙ opens-all 255 i
 
   -- ---- and nothing else

@@ -7,7 +7,7 @@ use Prim.Native.Nat.{ℕ, _+_, _-_, _<_, _≤_}
 use lib.ListN.{length}
 use Rattle.network.specs.declared.refusal.Rule.{Rule}
 use Rattle.network.specs.declared.refusal.Rule.the-variants.{RecordMissing, KindOutOfPlace, WrongLength, RecordCutOff, HeadOutOfRange, UnknownFlags, BadEnds, UnknownForm, UnsuitedCost, TooManySteps, UnknownLink, UnknownState, ByteAfterEnd, NotATree, TwoSources, FaultWithSource, Overloaded, TooManyOperable, BufferTooShort}
-use Rattle.network.specs.Refusals.{ruleNumber}
+use Rattle.network.specs.Refusals.{Sooner}
 use Rattle.file_stages.specs.declared.Stage.{Stage}
 use Rattle.file_stages.specs.declared.Stage.the-variants.{Head, Elements, Links, End, PlanHead, Steps, PlanEnd, Over}
 use Rattle.file_fields.specs.Fields.{word}
@@ -90,7 +90,7 @@ BreaksRule s E K at stage BufferTooShort = ⊥
 abbrev pub Keeps : (s : List ℕ) (E K at : ℕ) → Stage → Type 0
 Keeps s E K at stage = (r : Rule) → ¬ BreaksRule s E K at stage r
 
--- "rules 1 to 12 within each record": it breaks this rule, and none of a lower number
+-- "rules 1 to 12 within each record": it breaks this rule, and none that is checked sooner
 pub record BreaksFirst (s : List ℕ) (E K at : ℕ) (stage : Stage) (r : Rule) : Type 0 where
   pub broken : BreaksRule s E K at stage r
-  pub lower : (q : Rule) → ruleNumber q < ruleNumber r → ¬ BreaksRule s E K at stage q
+  pub sooner : (q : Rule) → Sooner q r → ¬ BreaksRule s E K at stage q

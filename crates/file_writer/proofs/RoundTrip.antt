@@ -16,9 +16,11 @@ use Rattle.file_stages.specs.declared.Stage.the-variants.{PlanHead, Steps, Plan
 use Rattle.file_records.specs.declared.Found.the-variants.{Record}
 use Rattle.file_plan.specs.declared.plan.Plan.{Plan}
 use Rattle.file_stages.specs.Stages.{nextStage}
+use Rattle.file_fields.specs.declared.Seen.{Seen}
+use Rattle.file_fields.specs.Views.{linksSeen}
 use Rattle.file_fields.specs.Fields.{word, lengthOf, fieldRules, planHeadRules, stepRules}
 use Rattle.file_records.specs.Records.{dueAt}
-use Rattle.file_network.specs.Runs.{reached, records, asIs}
+use Rattle.file_network.specs.Runs.{reached, records, always, asIs}
 use Rattle.file_plan.specs.PlanFiles.{emptyPlan, withStep, stepsOn, planEndOn, planFile}
 use Rattle.file_plan.specs.Inputs.{planInput}
 use Rattle.file_writer.specs.Writing.{stateNumber, planHeadBytes, stepBytes, stepsBytes, endBytes, planBytes, planLength, bufferAfter}
@@ -70,33 +72,33 @@ end-words {s} {at} h = (
 -- ---- each record is what is due
 
 pub head-due :
-    {s : List ℕ} {at : ℕ} (elements links n : ℕ) →
+    {s : List ℕ} {at : ℕ} (seen : Seen) (n : ℕ) →
     n ≤ 255 →
     Stands s at (planHeadBytes n) →
-    dueAt s elements links at PlanHead ≡ Record 5 6 Steps
+    dueAt s seen at PlanHead ≡ Record 5 6 Steps
 unfolding nextStage lengthOf fieldRules planHeadRules
-head-due {s} {at} elements links n few h =
+head-due {s} {at} seen n few h =
     let w = head-words n h in
-    due-found s elements links at 5 6 PlanHead Steps (w .0) (w .1) (omega (arith, h .whole, head-length n)) (omega arith) refl refl
+    due-found s seen at 5 6 PlanHead Steps (w .0) (w .1) (omega (arith, h .whole, head-length n)) (omega arith) refl refl
     (rw (le-ltb 255 (word s (at + 4)) (omega arith)))
 
 pub step-due :
-    {s : List ℕ} {at : ℕ} (elements links l : ℕ) (c : Bool) →
-    l < links →
+    {s : List ℕ} {at : ℕ} (seen : Seen) (l : ℕ) (c : Bool) →
+    l < seen .links →
     Stands s at (stepBytes l c) →
-    dueAt s elements links at Steps ≡ Record 6 8 Steps
+    dueAt s seen at Steps ≡ Record 6 8 Steps
 unfolding nextStage lengthOf fieldRules stepRules
-step-due {s} {at} elements links l c known h =
+step-due {s} {at} seen l c known h =
     let w = step-words l c h in
-    due-found s elements links at 6 8 Steps Steps (w .0) (w .1) (omega (arith, h .whole, step-length l c)) (omega arith) refl refl
-    (rw (lt-leb links (word s (at + 4)) (omega arith), le-ltb 1 (word s (at + 6)) (omega (arith, state-small c))))
+    due-found s seen at 6 8 Steps Steps (w .0) (w .1) (omega (arith, h .whole, step-length l c)) (omega arith) refl refl
+    (rw (lt-leb (seen .links) (word s (at + 4)) (omega arith), le-ltb 1 (word s (at + 6)) (omega (arith, state-small c))))
 
 pub end-due :
-    {s : List ℕ} {at : ℕ} (elements links : ℕ) → Stands s at endBytes → dueAt s elements links at PlanEnd ≡ Record 4 4 Over
+    {s : List ℕ} {at : ℕ} (seen : Seen) → Stands s at endBytes → dueAt s seen at PlanEnd ≡ Record 4 4 Over
 unfolding nextStage lengthOf fieldRules
-end-due {s} {at} elements links h =
+end-due {s} {at} seen h =
     let w = end-words h in
-    due-found s elements links at 4 4 PlanEnd Over (w .0) (w .1) (omega (arith, h .whole, end-length)) (omega arith) refl refl refl
+    due-found s seen at 4 4 PlanEnd Over (w .0) (w .1) (omega (arith, h .whole, end-length)) (omega arith) refl refl refl
 
 -- ---- the plan that is read
 
@@ -199,16 +201,17 @@ module _
         {s : List ℕ} {at : ℕ} (n k : ℕ) →
         k + n ≡ p .steps →
         Stands s at (stepsBytes p (p .steps)) →
-        records s 0 links (withStep s) n (at + 8 * k) Steps (firstSteps p k) ≡
+        records s (always (linksSeen links)) (withStep s) n (at + 8 * k) Steps (firstSteps p k) ≡
         reached (at + 8 * p .steps) Steps (firstSteps p (p .steps))
+    unfolding linksSeen
     steps-read {s} {at} zero k e h =
         let e′ : k ≡ p .steps = omega arith in
-        records-none s 0 links (withStep s) (at + 8 * k) Steps (firstSteps p k) ∙ rw e′
+        records-none s (always (linksSeen links)) (withStep s) (at + 8 * k) Steps (firstSteps p k) ∙ rw e′
     steps-read {s} {at} (suc n) k e h =
         let here = step-stands p (p .steps) k (omega arith) h in
         let next : at + 8 * k + 8 ≡ at + 8 * (k + 1) = omega arith in
-        records-suc s 0 links (withStep s) n (at + 8 * k) Steps (firstSteps p k) 6 8 Steps
-        (step-due 0 links (getD (p .link) k 0) (getD (p .close) k false) (known k (omega arith)) here) ∙
+        records-suc s (always (linksSeen links)) (withStep s) n (at + 8 * k) Steps (firstSteps p k) 6 8 Steps
+        (step-due (linksSeen links) (getD (p .link) k 0) (getD (p .close) k false) (known k (omega arith)) here) ∙
         rw (first-more p k link-long close-long (omega arith) here, next) (steps-read n (k + 1) (omega arith) h)
 
     -- wherever the plan's file stands
@@ -227,14 +230,14 @@ module _
         let end : Stands s (at + 6 + 8 * p .steps) endBytes =
         rw long at (stands-right (planHeadBytes (p .steps) ++ stepsBytes p (p .steps)) endBytes h) in
         let first =
-        records-suc s 0 links asIs 0 at PlanHead emptyPlan 5 6 Steps (head-due 0 links (p .steps) few head) ∙
-        records-none s 0 links asIs (at + 6) Steps emptyPlan in
-        let middle : records s 0 links (withStep s) (p .steps) (at + 6) Steps emptyPlan ≡ reached (at + 6 + 8 * p .steps) Steps
+        records-suc s (always (linksSeen links)) asIs 0 at PlanHead emptyPlan 5 6 Steps (head-due (linksSeen links) (p .steps) few head) ∙
+        records-none s (always (linksSeen links)) asIs (at + 6) Steps emptyPlan in
+        let middle : records s (always (linksSeen links)) (withStep s) (p .steps) (at + 6) Steps emptyPlan ≡ reached (at + 6 + 8 * p .steps) Steps
         (firstSteps p (p .steps)) =
         rw (add-zero (at + 6), first-none p) at (steps-read (p .steps) 0 (zero-add (p .steps)) steps) in
         let last =
-        records-suc s 0 links asIs 0 (at + 6 + 8 * p .steps) PlanEnd (firstSteps p (p .steps)) 4 4 Over (end-due 0 links end) ∙
-        records-none s 0 links asIs (at + 6 + 8 * p .steps + 4) Over (firstSteps p (p .steps)) in
+        records-suc s (always (linksSeen links)) asIs 0 (at + 6 + 8 * p .steps) PlanEnd (firstSteps p (p .steps)) 4 4 Over (end-due (linksSeen links) end) ∙
+        records-none s (always (linksSeen links)) asIs (at + 6 + 8 * p .steps + 4) Over (firstSteps p (p .steps)) in
         let over : at + 6 + 8 * p .steps + 4 ≡ at + (10 + 8 * p .steps) = omega arith in
         rw (first, head-words (p .steps) head .2, middle, last, over)
 

@@ -1,8 +1,9 @@
--- Document 01, "Refusals, in the order they are checked": the number of each rule, and the first broken of a list of rules.
+-- Document 01, "Refusals, in the order they are checked": the number of each rule, the order, and the first broken of a list of rules.
 -- Assumes nothing.
 use mathlib.Core.Bool.{Bool, true, false}
 use mathlib.Core.List.{List, [], _∷_}
-use Prim.Native.Nat.{ℕ}
+use Prim.Native.Nat.{ℕ, suc, _<_}
+use lib.Dec.{eqb}
 use Rattle.network.specs.declared.refusal.Rule.{Rule}
 use Rattle.network.specs.declared.refusal.Rule.the-variants.{RecordMissing, KindOutOfPlace, WrongLength, RecordCutOff, HeadOutOfRange, UnknownFlags, BadEnds, UnknownForm, UnsuitedCost, TooManySteps, UnknownLink, UnknownState, ByteAfterEnd, NotATree, TwoSources, FaultWithSource, Overloaded, TooManyOperable, BufferTooShort}
 use Rattle.network.specs.declared.refusal.Verdict.{Verdict}
@@ -29,6 +30,30 @@ ruleNumber Overloaded = 17
 ruleNumber TooManyOperable = 18
 ruleNumber BufferTooShort = 19
 
+-- the rules in the order in which they are checked
+abbrev pub checkedOrder : List Rule
+checkedOrder =
+    RecordMissing ∷ KindOutOfPlace ∷ WrongLength ∷ RecordCutOff ∷ HeadOutOfRange ∷ UnknownFlags ∷ BadEnds ∷
+    UnknownForm ∷ UnsuitedCost ∷ TooManySteps ∷ UnknownLink ∷ UnknownState ∷ ByteAfterEnd ∷ NotATree ∷ TwoSources ∷
+    FaultWithSource ∷ Overloaded ∷ TooManyOperable ∷ BufferTooShort ∷ []
+
+abbrev pub pick {ℓ} : {A : Type ℓ} → Bool → A → A → A
+pick true a b = a
+pick false a b = b
+
+-- how many of a list's rules stand before the one of a number
+abbrev pub countBefore : List Rule → ℕ → ℕ
+countBefore [] n = 0
+countBefore (q ∷ qs) n = pick (eqb (ruleNumber q) n) 0 (suc (countBefore qs n))
+
+-- how many rules are checked before a rule
+unfoldable pub position : Rule → ℕ
+position r = countBefore checkedOrder (ruleNumber r)
+
+-- a rule is checked before another
+abbrev pub Sooner : Rule → Rule → Type 0
+Sooner q r = position q < position r
+
 -- a rule with the test that says whether it is broken
 pub record Check : Type 0 where
   pub rule : Rule
@@ -36,10 +61,6 @@ pub record Check : Type 0 where
 
 abbrev pub check : Rule → Bool → Check
 check r b = record { rule = r; broken = b }
-
-abbrev pub pick {ℓ} : {A : Type ℓ} → Bool → A → A → A
-pick true a b = a
-pick false a b = b
 
 -- the first of the rules that is broken
 abbrev pub firstBroken : List Check → Verdict

@@ -5,6 +5,7 @@ use mathlib.Core.List.{map}
 use Rattle.network.specs.Networks.{emptyNetwork}
 use Rattle.file_stages.specs.Stages.{nextStage}
 use Rattle.file_fields.specs.Fields.{word, lengthOf, headRules, elementRules, linkRules, planHeadRules, stepRules, fieldRules}
+use Rattle.file_fields.specs.Views.{nothingSeen, networkSeen, linksSeen}
 use Rattle.file_records.specs.Records.{frameRules, recordRules, dueAt}
 use Rattle.file_network.specs.Runs.{records}
 use Rattle.file_network.specs.NetworkFiles.{elementOf, linkOf, withElement, withLink, endOn, linksOn, elementsOn, networkFile}
@@ -37,8 +38,8 @@ use Rattle.starred.specs.Tables.{head, element, joins, networkB, network
 
 -- the table is computed whole: the line names every definition from the reader of records to the printed lines
 pub tried : map (λ c. prints (c .program) (c .input)) cases ≡ map (λ c. c .printed) cases
-unfolding emptyNetwork nextStage word lengthOf frameRules headRules elementRules linkRules planHeadRules stepRules fieldRules recordRules dueAt records elementOf
-    linkOf withElement withLink endOn linksOn elementsOn networkFile networkInput networkRead sumTo allTo anyTo leastTo lowestFrom lowest
+unfolding emptyNetwork nextStage word lengthOf frameRules headRules elementRules linkRules planHeadRules stepRules fieldRules nothingSeen networkSeen linksSeen recordRules
+    dueAt records elementOf linkOf withElement withLink endOn linksOn elementsOn networkFile networkInput networkRead sumTo allTo anyTo leastTo lowestFrom lowest
     those tabulate gridOf netOf touches far relabel merge link labels label joined? sound? live? leads elementLoad above elementOver
     lowestOver loopAt looped? paired? faultLive? treePlace pairPlace faultPlace safe? spoiled? clean restorable? waits? operable? operablesBy
     restored? fedLoad darkLoad lostLoad put run costOf sweep printedForm flip setCost brokenAt safety limited andThen acceptanceBy unadmitted handedOut startWith

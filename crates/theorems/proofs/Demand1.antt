@@ -15,6 +15,7 @@ use Rattle.network.specs.declared.refusal.Rule.{Rule}
 use Rattle.network.specs.declared.refusal.Answer.the-variants.{Accepted, Refused}
 use Rattle.file_stages.specs.declared.Stage.{Stage}
 use Rattle.file_records.specs.declared.Found.the-variants as Found·
+use Rattle.file_fields.specs.declared.Seen.{Seen}
 use Rattle.file_records.specs.Records.{kindField, lengthField, dueAt}
 use Rattle.file_network.specs.Inputs.{networkInput, networkRead}
 use Rattle.file_plan.specs.declared.plan.Plan.{Plan}
@@ -34,7 +35,7 @@ use Rattle.feeding_acceptance.proofs.Promises.{network-once, first-rule-once, a
 use Rattle.file_refusals.specs.Breaking.{BreaksFirst, Keeps, ComesNext}
 use Rattle.file_refusals.specs.Files.{FirstBroken, FirstBrokenBoth}
 use Rattle.file_refusals.specs.Stated.{NetworkOf, BothOf}
-use Rattle.file_refusals.proofs.Record.{record-refused}
+use Rattle.file_refusals.proofs.Record.{own-told, record-refused}
 use Rattle.file_refusals.proofs.Record as Record
 use Rattle.file_refusals.proofs.Reading.{network-handed-out, network-read, both-handed-out, both-read}
 use Rattle.theorems.proofs.Answers as Answers
@@ -88,13 +89,13 @@ module _ (s : List ℕ) where
 
   -- and the record reader, by the contract of `record_due`: at an offset where a record is due, the first rule that it breaks, with the offset as its
   -- place, or its kind and length, and the stage that follows
-  pub record-broken : (E K at : ℕ) (stage : Stage) (f : Refusal)
-      → (dueAt s E K at stage ≡ Found·.Refused f) ↔ (BreaksFirst s E K at stage (f .rule) × (f .place ≡ at))
-  record-broken = record-refused s
+  pub record-broken : (seen : Seen) (at : ℕ) (stage : Stage) (f : Refusal)
+      → (dueAt s seen at stage ≡ Found·.Refused f) ↔ (BreaksFirst s (seen .elements) (seen .links) at stage (f .rule) × (f .place ≡ at))
+  record-broken seen at stage = record-refused s (seen .elements) (seen .links) at stage seen (own-told s seen at stage)
 
-  pub record-found : (E K at : ℕ) (stage : Stage) (kind long : ℕ) (next : Stage) → (dueAt s E K at stage ≡ Found·.Record kind long next)
-      ↔ (Keeps s E K at stage × (kind ≡ kindField s at) × (long ≡ lengthField s at) × ComesNext stage kind next)
-  record-found = Record.record-found s
+  pub record-found : (seen : Seen) (at : ℕ) (stage : Stage) (kind long : ℕ) (next : Stage) → (dueAt s seen at stage ≡ Found·.Record kind long next)
+      ↔ (Keeps s (seen .elements) (seen .links) at stage × (kind ≡ kindField s at) × (long ≡ lengthField s at) × ComesNext stage kind next)
+  record-found seen at stage = Record.record-found s (seen .elements) (seen .links) at stage seen (own-told s seen at stage)
 
 -- "Accepted input has at most 3,854 bytes, so the first 4,096 bytes decide."
 pub network-long : (s : List ℕ) (n : Network) → AcceptedNetwork s n → length s ≤ 1804

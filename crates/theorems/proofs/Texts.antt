@@ -23,7 +23,7 @@ use Rattle.judge_marks.specs.declared.Mark.{Mark}
 use Rattle.judge_marks.specs.declared.Mark.the-variants as Mark·
 use Rattle.judge_marks.specs.Marks.{reasonNumber}
 use Rattle.judge_line.specs.MarkLines.{markLine, brokenWord, shortWord, validWord}
-use Rattle.file_refusals.proofs.Record.{rule-numbered}
+use Rattle.network.proofs.Order.{rule-numbered}
 use Rattle.planner.specs.Replies.{planTextOf, stepTexts}
 
 -- ---- digits, and what stands behind them

@@ -31,7 +31,7 @@ add-after c =
     let args = c .before .before .before .before .before .args in
     omega (
       arith,
-      due-kept (args .s .now) (args .elements) (args .links) (args .at) (args .stage)
+      due-kept (args .s .now) (args .seen) (args .at) (args .stage)
           (sym (c .before .before .before .due-at .ensures) ∙ c .before .found .given .1) .framed .fits,
     )
 

@@ -20,7 +20,7 @@ returns : tie.Need-returns
 returns c =
     let enum-told = c .enum-told in
     let args = c .before .before .before .before .args in
-    enum-told .given .1 ∙ sym (due-frame-refused (args .s .now) (args .elements) (args .links) (args .at) (args .stage) _
+    enum-told .given .1 ∙ sym (due-frame-refused (args .s .now) (args .seen) (args .at) (args .stage) _
     (sym (c .before .before .record-at .ensures) ∙ enum-told .given .1))
 
 field-rules-requires : tie.Need-field-rules-requires
@@ -43,7 +43,7 @@ returns-2 c =
     let args = c .before .before .before .before .before .before .before .before .args in
     let record-at = c .before .before .before .before .before .before .record-at in
     let found = c .before .before .before .before .found in
-    due-decided (args .s .now) (args .elements) (args .links) (args .at) (args .stage) _ _ _ _ (sym (record-at .ensures) ∙ found .given .1)
+    due-decided (args .s .now) (args .seen) (args .at) (args .stage) _ _ _ _ (sym (record-at .ensures) ∙ found .given .1)
     (sym (c .enum-told2 .given .1) ∙ c .before .before .field-rules .ensures)
 
 returns-3 : tie.Need-returns-3
@@ -52,7 +52,7 @@ returns-3 c =
     let record-at = c .before .before .before .before .before .before .before .before .record-at in
     let found = c .before .before .before .before .before .before .found in
     let field-rules = c .before .before .before .before .field-rules in
-    c .refused .ensures ∙ due-decided (args .s .now) (args .elements) (args .links) (args .at) (args .stage) _ _ _ _
+    c .refused .ensures ∙ due-decided (args .s .now) (args .seen) (args .at) (args .stage) _ _ _ _
     (sym (record-at .ensures) ∙ found .given .1) (sym (c .before .before .verdict .given .1) ∙ field-rules .ensures)
 
 pub due-at-spec : {M : Type 1} → statement M

@@ -2,7 +2,8 @@
 -- Assumes nothing.
 use mathlib.Core.Path.{refl, ap, sym, _∙_}
 use native.Mathlib.Omega.{arith}
-use Rattle.file_network.specs.Runs.{asIs}
+use Rattle.file_fields.specs.Views.{nothingSeen}
+use Rattle.file_network.specs.Runs.{always, asIs}
 use Rattle.file_network.specs.NetworkFiles.{endOn}
 use Rattle.file_network.specs.Inputs.{networkPart}
 use Rattle.file_records.proofs.Due.{due-kept}
@@ -28,27 +29,28 @@ cast-after : tie.Need-cast-after
 cast-after c = omega arith
 
 add-after : tie.Need-add-after
+unfolding nothingSeen
 add-after c =
     let args = c .before .before .before .before .before .args in
     omega (
       arith,
-      due-kept (args .s .now) 0 0 (args .at) (args .stage)
+      due-kept (args .s .now) nothingSeen (args .at) (args .stage)
           (sym (c .before .before .before .record-due .ensures) ∙ c .before .found2 .given .1) .framed .fits,
     )
 
 returns : tie.Need-returns
-unfolding endOn
+unfolding endOn nothingSeen
 returns c =
     let args = c .before .before .before .before .before .before .args in
     let record-due = c .before .before .before .before .record-due in
-    c .refused-network .ensures ∙ ap networkPart (run-refused (args .s .now) 0 0 asIs _ 1 (args .at) (args .stage) (args .net) refl _ (omega arith)
+    c .refused-network .ensures ∙ ap networkPart (run-refused (args .s .now) (always nothingSeen) asIs _ 1 (args .at) (args .stage) (args .net) refl _ (omega arith)
     (record-due .ensures) _ (c .before .before .found .given .1))
 
 returns-2 : tie.Need-returns-2
-unfolding endOn networkPart
+unfolding endOn networkPart nothingSeen
 returns-2 c =
     let args = c .before .before .before .before .before .args in
-    ap networkPart (sym (records-none (args .s .now) 0 0 asIs _ _ (args .net)) ∙ run-turn (args .s .now) 0 0 asIs _ 1 (args .at) (args .stage)
+    ap networkPart (sym (records-none (args .s .now) (always nothingSeen) asIs _ _ (args .net)) ∙ run-turn (args .s .now) (always nothingSeen) asIs _ 1 (args .at) (args .stage)
     (args .net) refl _ (omega arith) (c .before .before .before .record-due .ensures) _ _ _ (c .before .found2 .given .1))
 
 pub end-on-spec : {M : Type 1} → statement M

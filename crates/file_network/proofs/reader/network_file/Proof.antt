@@ -5,6 +5,8 @@ use native.Mathlib.Omega.{arith}
 use native.Mathlib.Nat.{zero-add}
 use Rattle.file_stages.specs.declared.Stage.the-variants.{Head}
 use Rattle.network.specs.Networks.{emptyNetwork}
+use Rattle.file_fields.specs.Views.{nothingSeen}
+use Rattle.file_network.specs.Runs.{always}
 use Rattle.file_network.specs.NetworkFiles.{elementsOn, networkFile}
 use Rattle.file_network.specs.Inputs.{networkPart}
 use Rattle.file_records.proofs.Due.{due-kept, head-kept}
@@ -29,25 +31,26 @@ cast-elements-on : tie.Need-cast-elements-on
 cast-elements-on c = omega arith
 
 elements-on-requires : tie.Need-elements-on-requires
+unfolding nothingSeen
 elements-on-requires c κs =
     let args = c .before .before .before .before .before .args in
-    let w = due-kept (args .s .now) 0 0 0 Head (sym (c .before .before .before .record-due .ensures) ∙ c .before .found2 .given .1) in let h = head-kept
+    let w = due-kept (args .s .now) nothingSeen 0 Head (sym (c .before .before .before .record-due .ensures) ∙ c .before .found2 .given .1) in let h = head-kept
     w in (omega (arith, w .framed .fits, w .framed .enough), h .elements-fit, h .links-fit, w .framed .next-at)
 
 returns : tie.Need-returns
-unfolding networkFile
+unfolding networkFile nothingSeen
 returns c =
     let args = c .before .before .before .before .before .before .args in
     let record-due = c .before .before .before .before .record-due in
-    c .refused-network .ensures ∙ ap networkPart (head-refused (args .s .now) 0 0 Head emptyNetwork (elementsOn (args .s .now)) _ (record-due .ensures) _
+    c .refused-network .ensures ∙ ap networkPart (head-refused (args .s .now) (always nothingSeen) 0 Head emptyNetwork (elementsOn (args .s .now)) _ (record-due .ensures) _
     (c .before .before .found .given .1))
 
 returns-2 : tie.Need-returns-2
-unfolding networkFile
+unfolding networkFile nothingSeen
 returns-2 c =
     let args = c .before .before .before .before .before .before .args in
     let record-due = c .before .before .before .before .record-due in
-    c .elements-on .ensures ∙ ap networkPart (rw zero-add at (head-found (args .s .now) 0 0 Head emptyNetwork (elementsOn (args .s .now)) _
+    c .elements-on .ensures ∙ ap networkPart (rw zero-add at (head-found (args .s .now) (always nothingSeen) 0 Head emptyNetwork (elementsOn (args .s .now)) _
     (record-due .ensures) _ _ _ (c .before .before .found2 .given .1)))
 
 pub network-file-spec : {M : Type 1} → statement M

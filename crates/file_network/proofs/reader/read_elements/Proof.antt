@@ -4,7 +4,8 @@ use mathlib.Core.Path.{_≡_, refl, ap, sym, _∙_}
 use Prim.Native.Nat.{_+_, _-_, _<_, _≤_}
 use native.Mathlib.Omega.{arith}
 use Rattle.file_stages.specs.declared.Stage.the-variants.{Elements}
-use Rattle.file_network.specs.Runs.{records}
+use Rattle.file_fields.specs.Views.{nothingSeen}
+use Rattle.file_network.specs.Runs.{records, always}
 use Rattle.file_network.specs.NetworkFiles.{withElement}
 use Rattle.file_network.specs.Inputs.{networkPart}
 use Rattle.file_network.proofs.Outcomes.{Turn, run-done, run-refused, run-turn, turn-whole}
@@ -17,7 +18,7 @@ use Rattle.file_network.proofs.reader.read_elements.Tie as tie
 
 abbrev Inv-loop : tie.InvT-loop
 Inv-loop s count start net₀ at₀ stage₀ left₀ net at stage left =
-    (stage ≡ Elements) × (net .elements + left ≤ 64) × (records s 0 0 (withElement s) left at stage net ≡ records s 0 0 (withElement s) left₀ at₀
+    (stage ≡ Elements) × (net .elements + left ≤ 64) × (records s (always nothingSeen) (withElement s) left at stage net ≡ records s (always nothingSeen) (withElement s) left₀ at₀
     stage₀ net₀)
 
 abbrev μ-loop : tie.MeasureT-loop
@@ -42,6 +43,7 @@ refused-network-requires : tie.Need-refused-network-requires Inv-loop μ-loop
 refused-network-requires c κs = tt
 
 returns : tie.Need-returns Inv-loop μ-loop
+unfolding nothingSeen
 returns c =
     let args = c .before .before .before .before .before .before .before .before .before .args in
     let loop = c .before .before .before .before .before .before .loop in
@@ -49,9 +51,9 @@ returns c =
     let empty = c .before .before .before .before .before .before .before .empty in
     c .refused-network .ensures ∙
     ap networkPart
-    (run-refused (args .s .now) 0 0 (withElement (args .s .now)) _ (loop .left) (loop .at) (loop .stage) (loop .net) (loop .inv .2) _ (omega arith)
+    (run-refused (args .s .now) (always nothingSeen) (withElement (args .s .now)) _ (loop .left) (loop .at) (loop .stage) (loop .net) (loop .inv .2) _ (omega arith)
     (record-due .ensures) _ (c .before .before .found .given .1)) ∙
-    ap (λ (x : Network). networkPart (records (args .s .now) 0 0 (withElement (args .s .now)) (args .count) (args .start) (args .first) x))
+    ap (λ (x : Network). networkPart (records (args .s .now) (always nothingSeen) (withElement (args .s .now)) (args .count) (args .start) (args .first) x))
     (empty .ensures)
 
 enum-known-found-2 : tie.Need-enum-known-found-2 Inv-loop μ-loop
@@ -62,10 +64,11 @@ turn :
     (c : tie.After-known-told2 Inv-loop μ-loop) →
     Turn (c .before .before .before .before .before .before .before .before .args .s .now) (c .before .before .before .before .before .loop .at)
     Elements (c .before .found2 .given .0 .1 .0) (c .before .found2 .given .0 .1 .1 .0)
+unfolding nothingSeen
 turn c =
     let args = c .before .before .before .before .before .before .before .before .args in
     let loop = c .before .before .before .before .before .loop in
-    turn-whole (args .s .now) 0 0 (loop .at) (loop .stage) Elements _ _ _ _ (c .before .before .before .record-due .ensures) (loop .inv .0)
+    turn-whole (args .s .now) nothingSeen (loop .at) (loop .stage) Elements _ _ _ _ (c .before .before .before .record-due .ensures) (loop .inv .0)
     (c .before .found2 .given .1)
 
 element-at-requires : tie.Need-element-at-requires Inv-loop μ-loop
@@ -105,6 +108,7 @@ loop-less : tie.Need-loop-less Inv-loop μ-loop
 loop-less c = omega arith
 
 loop-again : tie.Need-loop-again Inv-loop μ-loop
+unfolding nothingSeen
 loop-again c =
     let args = c .before .before .before .before .before .before .before .before .before .args in
     let loop = c .before .before .before .before .before .before .loop in
@@ -112,9 +116,9 @@ loop-again c =
     let w = turn (c .before) in (
       w .next-is,
       omega arith,
-      ap (records (args .s .now) 0 0 (withElement (args .s .now)) (loop .left - 1) _ _)
+      ap (records (args .s .now) (always nothingSeen) (withElement (args .s .now)) (loop .left - 1) _ _)
           (element-taken (args .s .now) (loop .at) (loop .net) _ (c .element-at .ensures)) ∙
-          run-turn (args .s .now) 0 0 (withElement (args .s .now)) _ (loop .left) (loop .at) (loop .stage) (loop .net) (loop .inv .2) _ (omega arith)
+          run-turn (args .s .now) (always nothingSeen) (withElement (args .s .now)) _ (loop .left) (loop .at) (loop .stage) (loop .net) (loop .inv .2) _ (omega arith)
           (record-due .ensures) _ _ _ (c .before .before .found2 .given .1),
     )
 
@@ -124,9 +128,9 @@ returns-2 c =
     let args = c .before .before .before .before .args in
     let loop = c .before .loop in
     ap networkPart
-    (run-done (args .s .now) 0 0 (withElement (args .s .now)) _ (loop .left) (loop .at) (loop .stage) (loop .net) (loop .inv .2)
+    (run-done (args .s .now) (always nothingSeen) (withElement (args .s .now)) _ (loop .left) (loop .at) (loop .stage) (loop .net) (loop .inv .2)
     (c .loop-test .left)) ∙
-    ap (λ (x : Network). networkPart (records (args .s .now) 0 0 (withElement (args .s .now)) (args .count) (args .start) (args .first) x))
+    ap (λ (x : Network). networkPart (records (args .s .now) (always nothingSeen) (withElement (args .s .now)) (args .count) (args .start) (args .first) x))
     (c .before .before .empty .ensures)
 
 pub read-elements-spec : {M : Type 1} → statement M

@@ -1,9 +1,15 @@
 -- `file_network::reader::read_links` reads so many links: at each turn what is left to read gives the whole outcome.
 -- Assumes nothing.
-use mathlib.Core.Path.{_≡_, refl, ap, sym, _∙_}
-use Prim.Native.Nat.{_+_, _-_, _<_, _≤_}
+use mathlib.Core.Path.{_≡_, refl, ap, _∙_}
+use mathlib.Core.List.{List}
+use Prim.Native.Nat.{ℕ, _+_, _-_, _≤_}
 use native.Mathlib.Omega.{arith}
+use Rattle.network.specs.declared.Network.{Network}
+use Rattle.file_stages.specs.declared.Stage.{Stage}
 use Rattle.file_stages.specs.declared.Stage.the-variants.{Links}
+use Rattle.file_fields.specs.Views.{networkSeen}
+use Rattle.file_records.specs.declared.Found.{Found}
+use Rattle.file_records.specs.Records.{dueAt}
 use Rattle.file_network.specs.Runs.{records}
 use Rattle.file_network.specs.NetworkFiles.{withLink}
 use Rattle.file_network.specs.Inputs.{networkPart}
@@ -15,16 +21,25 @@ use Rattle.file_network.proofs.reader.read_links.Tie as tie
 
 abbrev Inv-loop : tie.InvT-loop
 Inv-loop s count start e net₀ at₀ stage₀ left₀ net at stage left =
-    (stage ≡ Links) × (net .links + left ≤ 96) × (records s (net₀ .elements) 0 (withLink s) left at stage net ≡ records s (net₀ .elements) 0
+    (stage ≡ Links) × (net .links + left ≤ 96) × (net .elements ≡ e) × (records s networkSeen (withLink s) left at stage net ≡ records s networkSeen
     (withLink s) left₀ at₀ stage₀ net₀)
 
 abbrev μ-loop : tie.MeasureT-loop
 μ-loop s count start e net₀ at₀ stage₀ left₀ net at stage left = left
 
+-- the view that is handed on is that of the network read so far
+due-seen :
+    (s : List ℕ) (at : ℕ) (stage : Stage) (n : Network) (e : ℕ) (found : Found) →
+    n .elements ≡ e →
+    found ≡ dueAt s (record { elements = e; links = n .links }) at stage →
+    found ≡ dueAt s (networkSeen n) at stage
+unfolding networkSeen
+due-seen s at stage n e found same due = rw same due
+
 loop-holds : tie.Need-loop-holds Inv-loop μ-loop
 loop-holds c =
     let pre = c .before .pre in
-    (pre .1, pre .0, refl)
+    (pre .1, pre .0, refl, refl)
 
 record-due-requires : tie.Need-record-due-requires Inv-loop μ-loop
 record-due-requires c κs = tt
@@ -42,8 +57,9 @@ returns c =
     let record-due = c .before .before .before .before .record-due in
     c .refused-network .ensures ∙
     ap networkPart
-    (run-refused (args .s .now) (args .elements .elements) 0 (withLink (args .s .now)) _ (loop .left) (loop .at) (loop .stage) (loop .net)
-    (loop .inv .2) _ (omega arith) (record-due .ensures) _ (c .before .before .found .given .1))
+    (run-refused (args .s .now) networkSeen (withLink (args .s .now)) _ (loop .left) (loop .at) (loop .stage) (loop .net)
+    (loop .inv .3) _ (omega arith)
+    (due-seen (args .s .now) (loop .at) (loop .stage) (loop .net) _ _ (loop .inv .2) (record-due .ensures)) _ (c .before .before .found .given .1))
 
 enum-known-found-2 : tie.Need-enum-known-found-2 Inv-loop μ-loop
 enum-known-found-2 c = search needs
@@ -56,7 +72,8 @@ turn :
 turn c =
     let args = c .before .before .before .before .before .before .before .args in
     let loop = c .before .before .before .before .before .loop in
-    turn-whole (args .s .now) (args .elements .elements) 0 (loop .at) (loop .stage) Links _ _ _ _ (c .before .before .before .record-due .ensures)
+    turn-whole (args .s .now) (networkSeen (loop .net)) (loop .at) (loop .stage) Links _ _ _ _
+    (due-seen (args .s .now) (loop .at) (loop .stage) (loop .net) _ _ (loop .inv .2) (c .before .before .before .record-due .ensures))
     (loop .inv .0) (c .before .found2 .given .1)
 
 link-at-requires : tie.Need-link-at-requires Inv-loop μ-loop
@@ -109,10 +126,12 @@ loop-again c =
     let w = turn (c .before) in (
       w .next-is,
       omega arith,
-      ap (records (args .s .now) (args .elements .elements) 0 (withLink (args .s .now)) (loop .left - 1) _ _)
+      loop .inv .2,
+      ap (records (args .s .now) networkSeen (withLink (args .s .now)) (loop .left - 1) _ _)
           (link-taken (args .s .now) (loop .at) (loop .net) _ (c .link-at .ensures)) ∙
-          run-turn (args .s .now) (args .elements .elements) 0 (withLink (args .s .now)) _ (loop .left) (loop .at) (loop .stage) (loop .net)
-          (loop .inv .2) _ (omega arith) (record-due .ensures) _ _ _ (c .before .before .found2 .given .1),
+          run-turn (args .s .now) networkSeen (withLink (args .s .now)) _ (loop .left) (loop .at) (loop .stage) (loop .net)
+          (loop .inv .3) _ (omega arith)
+          (due-seen (args .s .now) (loop .at) (loop .stage) (loop .net) _ _ (loop .inv .2) (record-due .ensures)) _ _ _ (c .before .before .found2 .given .1),
     )
 
 returns-2 : tie.Need-returns-2 Inv-loop μ-loop
@@ -121,7 +140,7 @@ returns-2 c =
     let args = c .before .before .before .args in
     let loop = c .before .loop in
     ap networkPart
-    (run-done (args .s .now) (args .elements .elements) 0 (withLink (args .s .now)) _ (loop .left) (loop .at) (loop .stage) (loop .net) (loop .inv .2)
+    (run-done (args .s .now) networkSeen (withLink (args .s .now)) _ (loop .left) (loop .at) (loop .stage) (loop .net) (loop .inv .3)
     (c .loop-test .left))
 
 pub read-links-spec : {M : Type 1} → statement M

@@ -2,7 +2,7 @@
 -- Assumes nothing.
 use mathlib.Core.Path.{refl, ap, sym, _∙_}
 use native.Mathlib.Omega.{arith}
-use Rattle.file_network.specs.Runs.{asIs}
+use Rattle.file_network.specs.Runs.{always, asIs}
 use Rattle.file_plan.specs.PlanFiles.{planEndOn}
 use Rattle.file_plan.specs.Inputs.{planPart}
 use Rattle.file_records.proofs.Due.{due-kept}
@@ -32,7 +32,7 @@ add-after c =
     let args = c .before .before .before .before .before .args in
     omega (
       arith,
-      due-kept (args .s .now) 0 (args .links) (args .at) (args .stage)
+      due-kept (args .s .now) (args .seen) (args .at) (args .stage)
           (sym (c .before .before .before .record-due .ensures) ∙ c .before .found2 .given .1) .framed .fits,
     )
 
@@ -41,14 +41,14 @@ unfolding planEndOn
 returns c =
     let args = c .before .before .before .before .before .before .args in
     let record-due = c .before .before .before .before .record-due in
-    c .refused-plan .ensures ∙ ap planPart (run-refused (args .s .now) 0 (args .links) asIs _ 1 (args .at) (args .stage) (args .plan) refl _
+    c .refused-plan .ensures ∙ ap planPart (run-refused (args .s .now) (always (args .seen)) asIs _ 1 (args .at) (args .stage) (args .plan) refl _
     (omega arith) (record-due .ensures) _ (c .before .before .found .given .1))
 
 returns-2 : tie.Need-returns-2
 unfolding planEndOn planPart
 returns-2 c =
     let args = c .before .before .before .before .before .args in
-    ap planPart (sym (records-none (args .s .now) 0 (args .links) asIs _ _ (args .plan)) ∙ run-turn (args .s .now) 0 (args .links) asIs _ 1 (args .at)
+    ap planPart (sym (records-none (args .s .now) (always (args .seen)) asIs _ _ (args .plan)) ∙ run-turn (args .s .now) (always (args .seen)) asIs _ 1 (args .at)
     (args .stage) (args .plan) refl _ (omega arith) (c .before .before .before .record-due .ensures) _ _ _ (c .before .found2 .given .1))
 
 pub end-of-plan-spec : {M : Type 1} → statement M

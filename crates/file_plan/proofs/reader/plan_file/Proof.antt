@@ -2,7 +2,9 @@
 -- Assumes nothing.
 use mathlib.Core.Path.{ap, sym, _∙_}
 use native.Mathlib.Omega.{arith}
+use Rattle.file_fields.specs.Views.{linksSeen}
 use Rattle.file_stages.specs.declared.Stage.the-variants.{PlanHead}
+use Rattle.file_network.specs.Runs.{always}
 use Rattle.file_plan.specs.PlanFiles.{emptyPlan, stepsOn, planFile}
 use Rattle.file_plan.specs.Inputs.{planPart}
 use Rattle.file_records.proofs.Due.{due-kept, plan-head-kept}
@@ -27,15 +29,17 @@ cast-steps-on : tie.Need-cast-steps-on
 cast-steps-on c = omega arith
 
 add-steps-on : tie.Need-add-steps-on
+unfolding linksSeen
 add-steps-on c =
     let args = c .before .before .before .before .before .args in
-    let w = due-kept (args .s .now) 0 (args .links) (args .at) PlanHead
+    let w = due-kept (args .s .now) (linksSeen (args .links)) (args .at) PlanHead
     (sym (c .before .before .before .record-due .ensures) ∙ c .before .found2 .given .1) in omega (arith, w .framed .fits)
 
 steps-on-requires : tie.Need-steps-on-requires
+unfolding linksSeen
 steps-on-requires c κs =
     let args = c .before .before .before .before .before .args in
-    let w = due-kept (args .s .now) 0 (args .links) (args .at) PlanHead
+    let w = due-kept (args .s .now) (linksSeen (args .links)) (args .at) PlanHead
     (sym (c .before .before .before .record-due .ensures) ∙ c .before .found2 .given .1) in (
       omega (arith, w .framed .fits, w .framed .enough),
       plan-head-kept w,
@@ -43,20 +47,20 @@ steps-on-requires c κs =
     )
 
 returns : tie.Need-returns
-unfolding planFile
+unfolding planFile linksSeen
 returns c =
     let args = c .before .before .before .before .before .before .args in
     let record-due = c .before .before .before .before .record-due in
-    c .refused-plan .ensures ∙ ap planPart (head-refused (args .s .now) (args .links) (args .at) PlanHead emptyPlan
-    (stepsOn (args .s .now) (args .links) (args .at)) _ (record-due .ensures) _ (c .before .before .found .given .1))
+    c .refused-plan .ensures ∙ ap planPart (head-refused (args .s .now) (always (linksSeen (args .links))) (args .at) PlanHead emptyPlan
+    (stepsOn (args .s .now) (linksSeen (args .links)) (args .at)) _ (record-due .ensures) _ (c .before .before .found .given .1))
 
 returns-2 : tie.Need-returns-2
-unfolding planFile
+unfolding planFile linksSeen
 returns-2 c =
     let args = c .before .before .before .before .before .before .args in
     let record-due = c .before .before .before .before .record-due in
-    c .steps-on .ensures ∙ ap planPart (head-found (args .s .now) (args .links) (args .at) PlanHead emptyPlan
-    (stepsOn (args .s .now) (args .links) (args .at)) _ (record-due .ensures) _ _ _ (c .before .before .found2 .given .1))
+    c .steps-on .ensures ∙ ap planPart (head-found (args .s .now) (always (linksSeen (args .links))) (args .at) PlanHead emptyPlan
+    (stepsOn (args .s .now) (linksSeen (args .links)) (args .at)) _ (record-due .ensures) _ _ _ (c .before .before .found2 .given .1))
 
 pub plan-file-spec : {M : Type 1} → statement M
 plan-file-spec =

@@ -5,7 +5,7 @@ use Prim.Native.Nat.{_+_, _-_, _≤_}
 use native.Mathlib.Omega.{arith}
 use Rattle.file_plan.specs.declared.plan.Plan.{Plan}
 use Rattle.file_stages.specs.declared.Stage.the-variants.{Steps}
-use Rattle.file_network.specs.Runs.{records}
+use Rattle.file_network.specs.Runs.{records, always}
 use Rattle.file_plan.specs.PlanFiles.{emptyPlan, withStep}
 use Rattle.file_plan.specs.Inputs.{planPart}
 use Rattle.file_network.proofs.Outcomes.{Turn, run-done, run-refused, run-turn, turn-whole}
@@ -15,12 +15,12 @@ use Rattle.file_plan.proofs.reader.read_steps.Statement.{statement}
 use Rattle.file_plan.proofs.reader.read_steps.Tie as tie
 
 abbrev Inv-loop : tie.InvT-loop
-Inv-loop s count start links plan₀ at₀ stage₀ left₀ plan at stage left =
-    (stage ≡ Steps) × (plan .steps + left ≤ 255) × (records s 0 links (withStep s) left at stage plan ≡ records s 0 links (withStep s) left₀ at₀
+Inv-loop s count start seen plan₀ at₀ stage₀ left₀ plan at stage left =
+    (stage ≡ Steps) × (plan .steps + left ≤ 255) × (records s (always seen) (withStep s) left at stage plan ≡ records s (always seen) (withStep s) left₀ at₀
     stage₀ plan₀)
 
 abbrev μ-loop : tie.MeasureT-loop
-μ-loop s count start links plan₀ at₀ stage₀ left₀ plan at stage left = left
+μ-loop s count start seen plan₀ at₀ stage₀ left₀ plan at stage left = left
 
 empty-requires : tie.Need-empty-requires Inv-loop μ-loop
 empty-requires c κs = tt
@@ -48,9 +48,9 @@ returns c =
     let empty = c .before .before .before .before .before .before .before .empty in
     c .refused-plan .ensures ∙
     ap planPart
-    (run-refused (args .s .now) 0 (args .links) (withStep (args .s .now)) _ (loop .left) (loop .at) (loop .stage) (loop .plan) (loop .inv .2) _
+    (run-refused (args .s .now) (always (args .seen)) (withStep (args .s .now)) _ (loop .left) (loop .at) (loop .stage) (loop .plan) (loop .inv .2) _
     (omega arith) (record-due .ensures) _ (c .before .before .found .given .1)) ∙
-    ap (λ (x : Plan). planPart (records (args .s .now) 0 (args .links) (withStep (args .s .now)) (args .count) (args .start) (args .first) x))
+    ap (λ (x : Plan). planPart (records (args .s .now) (always (args .seen)) (withStep (args .s .now)) (args .count) (args .start) (args .first) x))
     (empty .ensures)
 
 enum-known-found-2 : tie.Need-enum-known-found-2 Inv-loop μ-loop
@@ -67,7 +67,7 @@ turn :
 turn c =
     let args = c .before .before .before .before .before .before .before .before .args in
     let loop = c .before .before .before .before .before .loop in
-    turn-whole (args .s .now) 0 (args .links) (loop .at) (loop .stage) Steps _ _ _ _ (c .before .before .before .record-due .ensures) (loop .inv .0)
+    turn-whole (args .s .now) (args .seen) (loop .at) (loop .stage) Steps _ _ _ _ (c .before .before .before .record-due .ensures) (loop .inv .0)
     (c .before .found2 .given .1)
 
 add-word-at : tie.Need-add-word-at Inv-loop μ-loop
@@ -115,9 +115,9 @@ loop-again c =
     let w = turn (c .before .before) in (
       w .next-is,
       omega arith,
-      ap (records (args .s .now) 0 (args .links) (withStep (args .s .now)) (loop .left - 1) _ _)
+      ap (records (args .s .now) (always (args .seen)) (withStep (args .s .now)) (loop .left - 1) _ _)
           (step-taken (args .s .now) (loop .at) (loop .plan) _ _ (c .before .word-at .ensures) (c .word-at2 .ensures)) ∙
-          run-turn (args .s .now) 0 (args .links) (withStep (args .s .now)) _ (loop .left) (loop .at) (loop .stage) (loop .plan) (loop .inv .2) _
+          run-turn (args .s .now) (always (args .seen)) (withStep (args .s .now)) _ (loop .left) (loop .at) (loop .stage) (loop .plan) (loop .inv .2) _
           (omega arith) (record-due .ensures) _ _ _ (found2 .given .1),
     )
 
@@ -127,9 +127,9 @@ returns-2 c =
     let args = c .before .before .before .before .args in
     let loop = c .before .loop in
     ap planPart
-    (run-done (args .s .now) 0 (args .links) (withStep (args .s .now)) _ (loop .left) (loop .at) (loop .stage) (loop .plan) (loop .inv .2)
+    (run-done (args .s .now) (always (args .seen)) (withStep (args .s .now)) _ (loop .left) (loop .at) (loop .stage) (loop .plan) (loop .inv .2)
     (c .loop-test .left)) ∙
-    ap (λ (x : Plan). planPart (records (args .s .now) 0 (args .links) (withStep (args .s .now)) (args .count) (args .start) (args .first) x))
+    ap (λ (x : Plan). planPart (records (args .s .now) (always (args .seen)) (withStep (args .s .now)) (args .count) (args .start) (args .first) x))
     (c .before .before .empty .ensures)
 
 pub read-steps-spec : {M : Type 1} → statement M

@@ -38,7 +38,7 @@ returns : tie.Need-returns
 returns c =
     let args = c .before .before .before .before .before .args in
     let read-steps = c .before .before .read-steps in
-    steps-refused (args .s .now) (args .links) (args .head) (args .at) (args .stage) (read-steps .result) _
+    steps-refused (args .s .now) (args .seen) (args .head) (args .at) (args .stage) (read-steps .result) _
     (rw (c .before .before .before .word-at .ensures) at (read-steps .ensures)) (c .enum-told .given .1)
 
 returns-2 : tie.Need-returns-2
@@ -48,7 +48,7 @@ returns-2 c =
     let word-at = c .before .before .before .before .before .before .word-at in
     let reached = c .before .before .before .reached in
     c .end-of-plan .ensures ∙ ap planPart (rw (c .before .after-last .ensures)
-    (steps-reached (args .s .now) (args .links) (args .head) (args .at) (args .stage) (read-steps .result) _ _
+    (steps-reached (args .s .now) (args .seen) (args .head) (args .at) (args .stage) (read-steps .result) _ _
     (rw (word-at .ensures) at (read-steps .ensures)) (reached .given .1)))
 
 pub steps-on-spec : {M : Type 1} → statement M
