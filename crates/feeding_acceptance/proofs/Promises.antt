@@ -15,12 +15,11 @@ use Rattle.file_network.specs.Inputs.{networkInput, networkRead}
 use Rattle.file_network.specs.Runs as Runs
 use Rattle.file_network.specs.Runs.{Reading}
 use Rattle.file_refusals.specs.Stated.{NetworkOf}
-use Rattle.file_refusals.proofs.Reading.{network-unread, network-handed-out, network-read}
+use Rattle.file_refusals.proofs.Reading.{network-unread, network-handed-out, file-formed, network-read}
 use Rattle.feeding.specs.Networks.{netOf}
 use Rattle.feeding.specs.Acceptance.{Answered, Starts, answerTo}
 use Rattle.feeding.proofs.Views.{network-answered, answered-network, accepted-starts}
 use Rattle.feeding_acceptance.specs.Reading.{handedOut, acceptedFrom, acceptedRead, Bytes, AcceptedNetwork, FirstRule, in-bytes, in-network, Admission, refused, accepted}
-use Rattle.feeding_acceptance.proofs.Reading.{read-well-formed}
 
 empty-read : (o : Reading Network) (r : Refusal) → networkRead o .answer ≡ Refused r → networkRead o .net ≡ emptyNetwork
 unfolding networkRead
@@ -37,18 +36,14 @@ unfolding refusalOr
 same-refusal {f} e = ap (refusalOr f) e
 
 module _ (s : List ℕ) (bytes : Bytes s) where
-  -- a file that states a network states a well-formed one
-  pub file-formed : (n : Network) → NetworkOf s n → WellFormed n
-  file-formed n file = read-well-formed s bytes _ (sym (network-read s n .1 file)) refl
-
   -- whatever is admitted of s is what `read_accepted` answers, so bytes have one admission
   pub admission-only : (r : NetworkRead) → Admission s r → r ≡ acceptedRead (networkRead (networkInput s))
   unfolding acceptedRead acceptedFrom handedOut
   admission-only _ (refused {f = f} (in-bytes b)) = ap acceptedRead (sym (network-handed-out s f .1 b))
   admission-only _ (refused {f = f} (in-network n file h)) =
-      ap (handedOut n) (answered-network n (file-formed n file) (Refused f) h) ∙ ap acceptedRead (sym (network-read s n .1 file))
+      ap (handedOut n) (answered-network n (file-formed s bytes n file) (Refused f) h) ∙ ap acceptedRead (sym (network-read s n .1 file))
   admission-only _ (accepted n a) =
-      ap (handedOut n) (answered-network n (file-formed n (a .file)) Accepted (a .kept)) ∙ ap acceptedRead (sym (network-read s n .1 (a .file)))
+      ap (handedOut n) (answered-network n (file-formed s bytes n (a .file)) Accepted (a .kept)) ∙ ap acceptedRead (sym (network-read s n .1 (a .file)))
 
   -- a network that was read and found well formed
   admission-network : (n : Network) → NetworkOf s n → (a : Answer) → Answered (netOf n) a → Admission s (handedOut n a)
@@ -60,7 +55,7 @@ module _ (s : List ℕ) (bytes : Bytes s) where
   unfolding acceptedFrom
   admission-read read e Accepted h =
       let file : NetworkOf s (read .net) = network-read s (read .net) .0 (e ∙ ap (λ (a : Answer). record { answer = a; net = read .net }) h) in
-      admission-network (read .net) file (answerTo (read .net)) (network-answered (read .net) (file-formed (read .net) file))
+      admission-network (read .net) file (answerTo (read .net)) (network-answered (read .net) (file-formed s bytes (read .net) file))
   admission-read read e (Refused r) h =
       subst (λ (n : Network). Admission s (record { answer = Refused r; net = n }))
       (sym (ap (λ (x : NetworkRead). x .net) (sym e) ∙ empty-read (networkInput s) r (ap (λ (x : NetworkRead). x .answer) e ∙ h)))
@@ -74,7 +69,7 @@ module _ (s : List ℕ) (bytes : Bytes s) where
   -- an accepted input: a well-formed network that starts safe, with at most 12 operable switches
   pub network-starts : (n : Network) → AcceptedNetwork s n → WellFormed n × Starts (netOf n)
   network-starts n a =
-      let formed = file-formed n (a .file) in
+      let formed = file-formed s bytes n (a .file) in
       (formed, accepted-starts n formed (sym (answered-network n formed Accepted (a .kept))))
 
   -- bytes have one accepted network, or one first rule that they break
