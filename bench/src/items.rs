@@ -8,8 +8,8 @@ use crate::networks::{self, Kind};
 use crate::plans;
 use crate::random::Random;
 
-/// More bytes of an input decide nothing.
-pub const MOST: usize = 4096;
+/// More bytes of an input decide nothing: what `DECIDING_BYTES` of the crate `streams` is.
+const DECIDING_BYTES: usize = 4096;
 
 /// A network part, and the plan parts that come behind it one at a time.
 pub struct Item {
@@ -19,8 +19,8 @@ pub struct Item {
 
 impl Item {
     fn new(mut network: Vec<u8>, mut plans: Vec<Vec<u8>>) -> Item {
-        network.truncate(MOST);
-        plans.iter_mut().for_each(|plan| plan.truncate(MOST - network.len()));
+        network.truncate(DECIDING_BYTES);
+        plans.iter_mut().for_each(|plan| plan.truncate(DECIDING_BYTES - network.len()));
         Item { network, plans }
     }
 

@@ -13,7 +13,7 @@ use Rattle.network.specs.Accepted.{WellFormed}
 use Rattle.file_network.specs.Inputs.{networkInput, networkRead}
 use Rattle.file_network.specs.Runs as Runs
 use Rattle.file_refusals.specs.Stated.{NetworkOf}
-use Rattle.file_refusals.proofs.Reading.{network-unread, network-handed-out, network-read}
+use Rattle.file_refusals.proofs.Reading.{network-unread, network-handed-out, file-formed, network-read}
 use Rattle.feeding.specs.Networks.{netOf}
 use Rattle.feeding.specs.Acceptance.{Answered, Starts, answerTo}
 use Rattle.feeding.proofs.Views.{network-answered, answered-network, accepted-starts}
@@ -21,7 +21,6 @@ use Rattle.feeding_start.specs.Starting.{startWith, Begun}
 use Rattle.feeding_start.proofs.Starts.{begun-network}
 use Rattle.feeding_acceptance.specs.declared.Admitted.{Admitted}
 use Rattle.feeding_acceptance.specs.Reading.{unadmitted, handedOut, acceptedFrom, acceptedRead, Bytes, AcceptedNetwork, FirstRule, in-bytes, in-network, Admission, refused, accepted}
-use Rattle.feeding_acceptance.proofs.Reading.{read-well-formed}
 
 -- what a refusal holds
 refusalOr : Refusal → Answer → Refusal
@@ -33,18 +32,14 @@ unfolding refusalOr
 same-refusal {f} e = ap (refusalOr f) e
 
 module _ (s : List ℕ) (bytes : Bytes s) where
-  -- a file that states a network states a well-formed one
-  pub file-formed : (n : Network) → NetworkOf s n → WellFormed n
-  file-formed n file = read-well-formed s bytes _ (sym (network-read s n .1 file)) refl
-
   -- whatever is admitted of s is what `read_accepted` answers, so bytes have one admission
   pub admission-only : (r : Admitted) → Admission s r → r ≡ acceptedRead (networkRead (networkInput s))
   unfolding acceptedRead acceptedFrom handedOut unadmitted
   admission-only _ (refused {f = f} (in-bytes b)) = ap acceptedRead (sym (network-handed-out s f .1 b))
   admission-only _ (refused {f = f} (in-network n file h)) =
-      ap (handedOut n) (answered-network n (file-formed n file) (Refused f) h) ∙ ap acceptedRead (sym (network-read s n .1 file))
+      ap (handedOut n) (answered-network n (file-formed s bytes n file) (Refused f) h) ∙ ap acceptedRead (sym (network-read s n .1 file))
   admission-only _ (accepted n a) =
-      ap (handedOut n) (answered-network n (file-formed n (a .file)) Accepted (a .kept)) ∙ ap acceptedRead (sym (network-read s n .1 (a .file)))
+      ap (handedOut n) (answered-network n (file-formed s bytes n (a .file)) Accepted (a .kept)) ∙ ap acceptedRead (sym (network-read s n .1 (a .file)))
 
   -- a network that was read and found well formed
   admission-network : (n : Network) → NetworkOf s n → (a : Answer) → Answered (netOf n) a → Admission s (handedOut n a)
@@ -56,7 +51,7 @@ module _ (s : List ℕ) (bytes : Bytes s) where
   unfolding acceptedFrom unadmitted
   admission-read read e Accepted h =
       let file : NetworkOf s (read .net) = network-read s (read .net) .0 (e ∙ ap (λ (a : Answer). record { answer = a; net = read .net }) h) in
-      admission-network (read .net) file (answerTo (read .net)) (network-answered (read .net) (file-formed (read .net) file))
+      admission-network (read .net) file (answerTo (read .net)) (network-answered (read .net) (file-formed s bytes (read .net) file))
   admission-read read e (Refused r) h = refused (in-bytes (network-unread s r .0 (ap (λ (x : NetworkRead). x .answer) e ∙ h)))
 
   -- the theorem, for what `read_accepted` answers
@@ -67,7 +62,7 @@ module _ (s : List ℕ) (bytes : Bytes s) where
   -- an accepted input: a well-formed network that starts safe, with no more operable switches than may be
   pub network-starts : (n : Network) → AcceptedNetwork s n → WellFormed n × Starts (netOf n)
   network-starts n a =
-      let formed = file-formed n (a .file) in
+      let formed = file-formed s bytes n (a .file) in
       (formed, accepted-starts n formed (sym (answered-network n formed Accepted (a .kept))))
 
   -- bytes have one accepted network, or one first rule that they break

@@ -1,27 +1,19 @@
 -- What an accepted input promises of its network, and each answer of `accept` and `read_accepted` as its definition gives it.
 -- Assumes nothing.
 use mathlib.Core.Path.{_≡_, refl, sym, ap, _∙_, subst}
-use mathlib.Core.Bool.{Bool, true, false}
 use mathlib.Core.List.{List}
 use Prim.Native.Nat.{ℕ, _<_, _≤_}
-use native.Mathlib.Omega.{arith}
-use lib.Dec.{ltb}
 use lib.ListN.{length, getD}
 use borrow.Author.Tests.{lt-ltb, le-ltb}
 use Rattle.network.specs.declared.Network.{Network}
 use Rattle.network.specs.declared.refusal.Refusal.{Refusal}
-use Rattle.network.specs.declared.refusal.Rule.the-variants.{ByteAfterEnd, TooManyOperable}
-use Rattle.network.specs.Networks.{emptyNetwork}
-use Rattle.network.specs.Refusals.{pick}
+use Rattle.network.specs.declared.refusal.Rule.the-variants.{TooManyOperable}
 use Rattle.network.specs.declared.refusal.Answer.{Answer}
 use Rattle.network.specs.declared.refusal.Answer.the-variants.{Accepted, Refused}
 use Rattle.file_network.specs.declared.NetworkRead.{NetworkRead}
 use Rattle.network.specs.Accepted.{WellFormed}
-use Rattle.file_network.specs.Inputs.{answerOf, valueOf, closed, networkInput, networkRead}
-use Rattle.file_network.specs.NetworkFiles.{networkFile}
-use Rattle.file_network.specs.Runs.{Reading, refused, reached}
-use Rattle.file_network.specs.Runs as Runs
-use Rattle.file_network.proofs.Accepted.{network-well-formed}
+use Rattle.file_network.specs.Inputs.{networkInput, networkRead}
+use Rattle.file_refusals.proofs.Reading.{file-formed, network-read}
 use Rattle.feeding.specs.Below.{bits}
 use Rattle.feeding.specs.Networks.{netOf, gridOf}
 use Rattle.feeding.specs.Parts.{closedIn}
@@ -37,17 +29,8 @@ use Rattle.feeding_acceptance.specs.declared.Admitted.{Admitted}
 use Rattle.feeding_acceptance.specs.Reading.{unadmitted, handedOut, acceptedFrom, acceptedRead}
 
 pub read-well-formed : (s : List ℕ) → ((i : ℕ) → getD s i 0 < 256) → (r : NetworkRead) → r ≡ networkRead (networkInput s) → r .answer ≡ Accepted → WellFormed (r .net)
-unfolding networkRead networkInput
-read-well-formed s bytes r e a = rw e (go (networkFile s) refl (sym (ap (λ (x : NetworkRead). x .answer) e) ∙ a))
-  where
-    go : (o : Reading Network) → networkFile s ≡ o → answerOf (Runs.readOn o (closed s)) ≡ Accepted → WellFormed (valueOf emptyNetwork (Runs.readOn o (closed s)))
-    go (refused r) h k = let z : _≡_ {A = ℕ} 0 1 = cc in absurd (omega arith)
-    go (reached at stage n) h k = by (ltb at (length s)) k
-      where
-        by : (t : Bool) → answerOf (pick {A = Reading Network} t (refused (record { rule = ByteAfterEnd; place = at })) (reached at stage n)) ≡ Accepted
-            → WellFormed (valueOf emptyNetwork (pick t (refused (record { rule = ByteAfterEnd; place = at })) (reached at stage n)))
-        by true k = let z : _≡_ {A = ℕ} 0 1 = cc in absurd (omega arith)
-        by false k = network-well-formed s at stage n bytes h
+read-well-formed s bytes r e a =
+    file-formed s bytes (r .net) (network-read s (r .net) .0 (sym e ∙ ap (λ (x : Answer). record { answer = x; net = r .net }) a))
 
 -- rule 18, by the count
 limited-over : (limit count : ℕ) → limit < count → Refused (record { rule = TooManyOperable; place = count }) ≡ limited limit count

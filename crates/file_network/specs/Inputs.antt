@@ -19,10 +19,6 @@ use Rattle.network.specs.Networks.{emptyNetwork}
 use Rattle.file_network.specs.Runs.{Reading, refused, reached, readOn}
 use Rattle.file_network.specs.NetworkFiles.{networkFile}
 
--- "Accepted input has at most 3,854 bytes, so the first 4,096 bytes decide."
-abbrev pub decides : ℕ
-decides = 4096
-
 -- how far reading came
 abbrev pub reachedOf : {A : Type 0} → Reading A → Reached
 reachedOf (refused r) = Reached·Refused r

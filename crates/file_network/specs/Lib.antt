@@ -1,3 +1,4 @@
 pub mod Runs
 pub mod NetworkFiles
 pub mod Inputs
+pub mod Deciding

@@ -3,10 +3,12 @@
 use mathlib.Core.Path.{_≡_, refl, sym, ap, ap₂, subst, _∙_}
 use mathlib.Core.List.{List}
 use mathlib.Core.Logic.{_↔_}
-use Prim.Native.Nat.{ℕ, _+_}
+use Prim.Native.Nat.{ℕ, _+_, _<_}
 use native.Mathlib.Omega.{arith}
+use lib.ListN.{getD}
 use Rattle.network.specs.declared.Network.{Network}
 use Rattle.network.specs.Networks.{emptyNetwork}
+use Rattle.network.specs.Accepted.{WellFormed}
 use Rattle.network.specs.declared.refusal.Refusal.{Refusal}
 use Rattle.network.specs.declared.refusal.Answer.the-variants.{Accepted, Refused}
 use Rattle.file_stages.specs.declared.Stage.{Stage}
@@ -15,6 +17,7 @@ use Rattle.file_network.specs.Runs.{Reading, refused, reached}
 use Rattle.file_network.specs.declared.NetworkRead.{NetworkRead}
 use Rattle.file_network.specs.Inputs.{networkInput, networkRead}
 use Rattle.file_network.proofs.Sizes.{network-input-size, network-size}
+use Rattle.file_network.proofs.Accepted.{network-well-formed}
 use Rattle.file_plan.specs.declared.plan.Plan.{Plan}
 use Rattle.file_plan.specs.PlanFiles.{emptyPlan, planFile}
 use Rattle.file_both.specs.declared.BothRead.{BothRead}
@@ -44,6 +47,18 @@ module _ (s : List ℕ) where
   unfolding networkRead
   network-handed-out f = (λ e. network-unread f .0 (ap (λ (r : NetworkRead). r .answer) e), λ b. ap networkRead (network-refused s f .1 b))
 
+  -- what s states is what is read, and it is well formed where s is bytes
+  pub stated-read : (n : Network) → NetworkOf s n → (at : ℕ) × (stage : Stage) × (networkInput s ≡ reached at stage n)
+  stated-read n x =
+      let k = network-kept s (x .keeps) in
+      let same = states-once s (k .0) (k .1) (k .2) (network-input-size s (k .0) (k .1) (k .2) (k .3) .0) n (x .states) in
+      (k .0, k .1, k .3 ∙ ap (reached (k .0) (k .1)) same)
+
+  pub file-formed : ((i : ℕ) → getD s i 0 < 256) → (n : Network) → NetworkOf s n → WellFormed n
+  file-formed bytes n x =
+      let r = stated-read n x in
+      network-well-formed s (r .0) (r .1) n bytes (network-input-size s (r .0) (r .1) n (r .2) .0)
+
   -- read as n exactly where s is a network file that states n
   pub network-read : (n : Network) → (networkRead (networkInput s) ≡ record { answer = Accepted; net = n } → NetworkOf s n)
       × (NetworkOf s n → networkRead (networkInput s) ≡ record { answer = Accepted; net = n })
@@ -63,11 +78,7 @@ module _ (s : List ℕ) where
           }
 
       back : NetworkOf s n → networkRead (networkInput s) ≡ record { answer = Accepted; net = n }
-      back x =
-          let k = network-kept s (x .keeps) in
-          ap networkRead (k .3)
-          ∙ ap (λ (m : Network). record { answer = Accepted; net = m })
-          (states-once s (k .0) (k .1) (k .2) (network-input-size s (k .0) (k .1) (k .2) (k .3) .0) n (x .states))
+      back x = ap networkRead (stated-read n x .2)
 
 -- ---- the judge's input
 

@@ -112,7 +112,7 @@ firstSteps p n =
     }
 
 -- one more element copied over the front of a list
-front-more :
+pub front-more :
     {A : Type 0} (d l : List A) (n : ℕ) (z : A) →
     n < length d →
     n < length l →

@@ -12,7 +12,7 @@ use Rattle.network.specs.declared.refusal.Answer.{Answer}
 use Rattle.network.specs.declared.refusal.Answer.the-variants.{Accepted, Refused}
 use Rattle.network.specs.Accepted.{WellFormed}
 use Rattle.file_network.specs.Runs.{Reading}
-use Rattle.file_network.specs.Inputs.{decides}
+use Rattle.file_network.specs.Deciding.{decides}
 use Rattle.file_plan.specs.declared.plan.Plan.{Plan}
 use Rattle.file_both.specs.declared.BothRead.{BothRead}
 use Rattle.file_both.specs.Inputs.{bothInput, bothRead}

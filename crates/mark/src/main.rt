@@ -1,9 +1,8 @@
 // Marks the plan file directly behind the network file on standard input, and prints the mark.
-use streams::DECIDING_BYTES;
 use streams::Input;
 
 fn main() {
-    let mut bytes = [0u8; DECIDING_BYTES];
+    let mut bytes = streams::input_buffer();
     let input = streams::read_input(b"mark", &mut bytes);
     let Input::Whole(length) = input else {
         return;

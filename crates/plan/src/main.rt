@@ -1,9 +1,8 @@
 // Plans the network file on standard input, and prints the reply.
-use streams::DECIDING_BYTES;
 use streams::Input;
 
 fn main() {
-    let mut bytes = [0u8; DECIDING_BYTES];
+    let mut bytes = streams::input_buffer();
     let input = streams::read_input(b"plan", &mut bytes);
     let Input::Whole(length) = input else {
         return;

@@ -10,7 +10,8 @@ use Rattle.network.specs.declared.Network.{Network}
 use Rattle.network.specs.declared.refusal.Refusal.{Refusal}
 use Rattle.network.specs.declared.refusal.Answer.the-variants as Answer·
 use Rattle.feeding_acceptance.specs.declared.Admitted.{Admitted}
-use Rattle.file_network.specs.Inputs.{decides, networkRead}
+use Rattle.file_network.specs.Deciding.{decides}
+use Rattle.file_network.specs.Inputs.{networkRead}
 use Rattle.file_network.proofs.NetworkAlike.{network-decided}
 use Rattle.file_network.specs.Runs as Runs
 use Rattle.feeding.specs.Networks.{Net, netOf}

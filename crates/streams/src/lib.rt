@@ -5,9 +5,10 @@ use libc::STDOUT_FILENO;
 ghost use Prim.Native.Nat.{_+_, _<_, _^_};
 ghost use mathlib.Core.Path.{_≡_};
 ghost use lib.ListN.{length, take};
+ghost use Rattle.file_network.specs.Deciding.{decides};
 ghost use Rattle.streams.specs.Streams.{inputAfter, Held, Grown, Ended};
 
-// "the first 4,096 bytes decide"
+// "the first 4,096 bytes decide"; `input_buffer` ties this number to the definition `decides`
 pub const DECIDING_BYTES: usize = 4096;
 
 // How far an input was read: so many bytes stand in front of the buffer and more may come, or they are all, or a read failed.
@@ -15,6 +16,13 @@ pub enum Input {
     More(usize),
     Whole(usize),
     Failed,
+}
+
+// A buffer for an input: as many zeros as bytes decide.
+pub fn input_buffer() -> [u8; DECIDING_BYTES]
+    ensures { λ r. ⌜ decides ≡ length r ⌝ }
+{
+    [0; DECIDING_BYTES]
 }
 
 // What C's read into `part` says by its answer, where `at` bytes had been read.

@@ -4,6 +4,7 @@
 // enumeration in bench/ wrote the corpus and the expected output, so that the gate holds planner and judge to it.
 use libc::STDIN_FILENO;
 use libc::STDOUT_FILENO;
+use streams::DECIDING_BYTES;
 ghost use Prim.Native.Nat.{_≤_};
 
 // More than the length of any part.
@@ -83,10 +84,10 @@ fn judge_all(buffer: &mut [u8], length: usize, plans: usize) {
 // The next item, if there is one.
 fn turn() -> bool {
     let length = next_length();
-    if 4096 < length {
+    if DECIDING_BYTES < length {
         return false;
     }
-    let mut buffer = io::buffer();
+    let mut buffer = streams::input_buffer();
     plan_next(&mut buffer, length);
     judge_all(&mut buffer, length, next_count());
     true

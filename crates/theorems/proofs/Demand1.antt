@@ -11,12 +11,12 @@ use lib.Seq.{take-at}
 use Rattle.network.specs.declared.Network.{Network}
 use Rattle.network.specs.Networks.{emptyNetwork}
 use Rattle.network.specs.declared.refusal.Refusal.{Refusal}
-use Rattle.network.specs.declared.refusal.Rule.{Rule}
 use Rattle.network.specs.declared.refusal.Answer.the-variants.{Accepted, Refused}
 use Rattle.file_stages.specs.declared.Stage.{Stage}
 use Rattle.file_records.specs.declared.Found.the-variants as Found·
 use Rattle.file_fields.specs.declared.Seen.{Seen}
 use Rattle.file_records.specs.Records.{kindField, lengthField, dueAt}
+use Rattle.file_network.specs.Deciding.{decides}
 use Rattle.file_network.specs.Inputs.{networkInput, networkRead}
 use Rattle.file_plan.specs.declared.plan.Plan.{Plan}
 use Rattle.file_plan.specs.PlanFiles.{emptyPlan}
@@ -104,10 +104,10 @@ network-long = Exactly.accepted-most
 pub both-long : (s : List ℕ) (n : Network) (q : List Step) → AcceptedPlan s n q → length s ≤ 3854
 both-long = Exactly.accepted-plan-most
 
-pub planner-decided : (s : List ℕ) → planText (take 4096 s) ≡ planText s
+pub planner-decided : (s : List ℕ) → planText (take decides s) ≡ planText s
 planner-decided s = ap linesOf (outcome-decided s)
 
-pub judge-decided : (s : List ℕ) → markText (take 4096 s) ≡ markText s
+pub judge-decided : (s : List ℕ) → markText (take decides s) ≡ markText s
 judge-decided s = ap markLine (mark-decided s)
 
 -- ---- "Faulty input is refused by the first rule of document 01 that it breaks, with number and place."

@@ -1,4 +1,4 @@
--- A printed plan has at most as many steps as switches may be operable, and texts are at most as long as the C header states: by rule 18, by the widths of the fields, and by the places, which lie in the first 4,096 bytes.
+-- A printed plan has at most as many steps as switches may be operable, and texts are at most as long as the C header states: by rule 18, by the widths of the fields, and by the places, which lie in the bytes that decide.
 -- Assumes nothing.
 use mathlib.Core.Path.{_≡_, refl, sym, ap, ap₂, subst, _∙_}
 use mathlib.Core.Bool.{Bool, true, false, not, _&&_}
@@ -53,7 +53,9 @@ use Rattle.plan_form.proofs.Steps as Steps
 use Rattle.planner.proofs.Promises.{planner-replies}
 use Rattle.planner.specs.Replies as Replies
 use Rattle.judge.proofs.Read.{BothFormed}
-use Rattle.feeding_acceptance.proofs.Promises.{network-starts, file-formed}
+use Rattle.feeding_acceptance.proofs.Promises.{network-starts}
+use Rattle.file_network.specs.Deciding.{decides}
+use Rattle.file_refusals.proofs.Reading.{file-formed}
 use Rattle.feeding_acceptance.specs.Reading as Reading
 use Rattle.file_refusals.specs.Files.{Stand, none, next, FirstBreak, here, later, FirstBroken, in-file, behind, FirstBrokenBoth, in-network, in-plan, behind-plan}
 use Rattle.feeding_acceptance.specs.Reading.{Bytes, FirstRule}
@@ -234,7 +236,7 @@ none-length : (n : Network) → WellFormed n → (l : Sums) → LoadsIn (netOf n
 unfolding noneLines replyText
 none-length n w l h = omega (arith, length-append (noneWord ++ feed) (textOf (tailLines l)), loads-length n w (netOf n .startClosed) l h)
 
-module _ (s : List ℕ) (bytes : Bytes s) (short : length s ≤ 4096) where
+module _ (s : List ℕ) (bytes : Bytes s) (short : length s ≤ decides) where
   first-length : (f : Refusal) → FirstRule s f → length (refusedLine f) ≤ 20
   first-length f (Reading.FirstRule.in-bytes b) = refused-length f (omega (arith, first-within s b))
   first-length f (Reading.FirstRule.in-network n file h) = refused-length f (omega (arith, answered-within n (file-formed s bytes n file) f h))
@@ -309,9 +311,9 @@ take-most (suc n) (x ∷ xs) = omega (arith, take-most n xs)
 pub plan-text-short : (s : List ℕ) → Bytes s → length (planText s) ≤ 512
 plan-text-short s bytes =
     subst (λ (t : List ℕ). length t ≤ 512) (ap linesOf (outcome-decided s))
-    (reply-length (take 4096 s) (take-bytes 4096 s bytes) (take-most 4096 s) (planText (take 4096 s)) (planner-replies (take 4096 s) (take-bytes 4096 s bytes)))
+    (reply-length (take decides s) (take-bytes decides s bytes) (take-most decides s) (planText (take decides s)) (planner-replies (take decides s) (take-bytes decides s bytes)))
 
 pub mark-text-short : (s : List ℕ) → Bytes s → length (markText s) ≤ 64
 mark-text-short s bytes =
     subst (λ (t : List ℕ). length t ≤ 64) (ap markLine (mark-decided s))
-    (judged-length (take 4096 s) (take-bytes 4096 s bytes) (take-most 4096 s) (markText (take 4096 s)) (judge-replies (take 4096 s) (take-bytes 4096 s bytes)))
+    (judged-length (take decides s) (take-bytes decides s bytes) (take-most decides s) (markText (take decides s)) (judge-replies (take decides s) (take-bytes decides s bytes)))

@@ -29,7 +29,7 @@ use Rattle.feeding_start.specs.Starting.{startWith}
 use Rattle.plan_form.specs.Printing.{stepsTo, stepsOf}
 use Rattle.plan_form.proofs.Steps.{plan-well-formed, printed-length, printed-below}
 use Rattle.feeding_acceptance.specs.Reading as Admissions
-use Rattle.feeding_acceptance.proofs.Promises.{admission-only, file-formed, network-starts}
+use Rattle.feeding_acceptance.proofs.Promises.{admission-only, network-starts}
 use Rattle.feeding.proofs.Views.{formed-net, answered-network}
 use Rattle.plan_outcome.proofs.Promises.{outcome-kept}
 use Rattle.judge_marks.specs.declared.Mark.the-variants as Mark·
@@ -40,7 +40,7 @@ use Rattle.plan_outcome.specs.declared.Planned.{Planned}
 use Rattle.plan_outcome.specs.declared.Reply.the-variants as Reply·
 use Rattle.plan_outcome.specs.declared.Outcome as Outcomes·
 use Rattle.plan_outcome.specs.Outcomes.{outcomeWith, outcomeWithout, outcomeFrom, outcomeOf, outcomeAnswered, outcomeRead, outcome}
-use Rattle.file_refusals.proofs.Reading.{network-read, both-read}
+use Rattle.file_refusals.proofs.Reading.{file-formed, network-read, both-read}
 use Rattle.feeding_acceptance.specs.Reading.{Bytes, AcceptedNetwork}
 use Rattle.judge.specs.Judging.{AcceptedPlan}
 

@@ -5,6 +5,9 @@ use Rattle.streams.proofs.Answers.{whole-counted}
 use Rattle.mark.proofs.main.Statement.{statement}
 use Rattle.mark.proofs.main.Tie as tie
 
+input-buffer-requires : tie.Need-input-buffer-requires
+input-buffer-requires c κs = search needs
+
 slice-aggregate-read-input : tie.Need-slice-aggregate-read-input
 slice-aggregate-read-input c = search needs
 
@@ -54,6 +57,7 @@ pub main-spec : {M : Type 1} → statement M
 main-spec =
     tie.close
     (tie.spec
+    input-buffer-requires
     slice-aggregate-read-input
     slice-aggregate-read-input-2
     read-input-requires

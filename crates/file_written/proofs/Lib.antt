@@ -1,0 +1,4 @@
+pub mod Each
+pub mod RoundTrip
+pub mod OfNetwork
+pub mod Stating

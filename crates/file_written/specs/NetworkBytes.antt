@@ -1,0 +1,63 @@
+-- Document 01, the network file as bytes: the file of a list of elements and a list of links with the network that they make, and the file of a network.
+-- Internal: no promise to a user is said by it yet. A kind more is one case more of `elementBytes` or `linkBytes`.
+-- Assumes nothing.
+use mathlib.Core.List.{List, [], _∷_, _++_, flatMap, foldl}
+use Prim.Native.Nat.{ℕ, zero, suc, _<_, _≤_}
+use lib.ListN.{length, getD}
+use Rattle.network.specs.declared.Element.{Element}
+use Rattle.network.specs.declared.Link.{Link}
+use Rattle.network.specs.declared.Network.{Network}
+use Rattle.network.specs.Networks.{emptyNetwork, elementAdded, linkAdded}
+use Rattle.file_writer.specs.Writing.{number, endBytes}
+use Rattle.file_refusals.specs.Stated.{ElementIs, LinkIs}
+
+-- ---- the file of elements and links
+
+-- "Kind 1, network head, length 8: element count E (1 to 64), link count K (0 to 96)."
+unfoldable pub headBytes : ℕ → ℕ → List ℕ
+headBytes elements links = number 8 ++ number 1 ++ number elements ++ number links
+
+-- "Kind 2, element, length 10: own load, capacity, flags"
+unfoldable pub elementBytes : Element → List ℕ
+elementBytes e = number 10 ++ number 2 ++ number (e .load) ++ number (e .capacity) ++ number (e .flags)
+
+-- "Kind 3, link, length 12: two different elements, form .., cost"
+unfoldable pub linkBytes : Link → List ℕ
+linkBytes l = number 12 ++ number 3 ++ number (l .from) ++ number (l .to) ++ number (l .form) ++ number (l .cost)
+
+-- "A network file is one head, E elements, K links, one end."
+unfoldable pub networkBytes : List Element → List Link → List ℕ
+networkBytes es ls = headBytes (length es) (length ls) ++ flatMap elementBytes es ++ flatMap linkBytes ls ++ endBytes
+
+-- "Elements and links are numbered from 0 in file order"
+unfoldable pub networkOf : List Element → List Link → Network
+networkOf es ls = foldl linkAdded (foldl elementAdded emptyNetwork es) ls
+
+-- ---- the file of a network
+
+-- its element and its link of a number
+abbrev pub elementIn : Network → ℕ → Element
+elementIn n i = record { load = getD (n .load) i 0; capacity = getD (n .capacity) i 0; flags = getD (n .flags) i 0 }
+
+abbrev pub linkIn : Network → ℕ → Link
+linkIn n l = record { from = getD (n .from) l 0; to = getD (n .to) l 0; form = getD (n .form) l 0; cost = getD (n .cost) l 0 }
+
+-- so many of what is numbered, from a number on
+unfoldable pub numbered : {A : Type 0} → (ℕ → A) → ℕ → ℕ → List A
+numbered f from zero = []
+numbered f from (suc count) = f from ∷ numbered f (suc from) count
+
+unfoldable pub networkFileOf : Network → List ℕ
+networkFileOf n = networkBytes (numbered (elementIn n) 0 (n .elements)) (numbered (linkIn n) 0 (n .links))
+
+-- ---- the networks that files state
+
+-- zeros stand behind the last element and the last link
+pub record Tidy (n : Network) : Type 0 where
+  pub no-element : (i : ℕ) → n .elements ≤ i → ElementIs n i 0 0 0
+  pub no-link : (l : ℕ) → n .links ≤ l → LinkIs n l 0 0 0 0
+
+-- "Numbers are unsigned, two bytes": the loads and capacities that kind 2 has room for
+pub record Narrow (n : Network) : Type 0 where
+  pub load-in : (i : ℕ) → i < n .elements → getD (n .load) i 0 < 65536
+  pub capacity-in : (i : ℕ) → i < n .elements → getD (n .capacity) i 0 < 65536
