@@ -1,6 +1,6 @@
 -- A well-formed network meets what a check asks, whatever the states.
 -- Assumes nothing.
-use mathlib.Core.Path.{_≡_, ap}
+use mathlib.Core.Path.{_≡_, ap, _∙_}
 use mathlib.Core.Bool.{Bool, true}
 use mathlib.Core.List.{List}
 use Prim.Native.Nat.{ℕ, _<_}
@@ -24,6 +24,17 @@ module _ (n : Network) (w : WellFormed n) where
   two-ends has long =
       Same.two-ends (n .elements) (n .links) (n .load) (n .capacity) (n .flags) (n .from) (n .to) (formed-net n w) (w .elements-fit) (w .links-fit) has
       (omega (arith, w .from-long, w .links-fit)) (omega (arith, w .to-long, w .links-fit)) (omega (arith, w .links-fit))
+
+  -- how long the lists of chained ends are
+  pub own-wide : (has : ℕ → Bool) (own : OwnEnds) → own ≡ ownEnds (at (n .from)) (at (n .to)) has (n .links)
+      → (length (own .head) ≡ 64) × ((length (own .next) ≡ 192) × (length (own .far) ≡ 192))
+  own-wide has own o = (
+    ap (λ (x : OwnEnds). length (x .head)) o ∙ Same.head-length (at (n .from)) (at (n .to)) has (n .links) (w .links-fit),
+    (
+      ap (λ (x : OwnEnds). length (x .next)) o ∙ Same.next-length (at (n .from)) (at (n .to)) has (n .links) (w .links-fit),
+      ap (λ (x : OwnEnds). length (x .far)) o ∙ Same.far-length (at (n .from)) (at (n .to)) has (n .links) (w .links-fit),
+    ),
+  )
 
   -- with the ends chained of a set that has all closed links
   pub checked : (has : ℕ → Bool) (own : OwnEnds) (states : List ℕ) → own ≡ ownEnds (at (n .from)) (at (n .to)) has (n .links)

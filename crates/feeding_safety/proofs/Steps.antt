@@ -81,13 +81,16 @@ module _ {load capacity flags from to head next far closed : List ℕ} {E K : �
     pub label-wide : length (parts .label) ≡ 64
     label-wide = ap (λ (p : Parts). length (p .label)) parts-is ∙ label-long from to closed K
 
+    pub looped-wide : length (parts .looped) ≡ 64
+    looped-wide = ap (λ (p : Parts). length (p .looped)) parts-is ∙ looped-long from to closed K
+
     label-fits : E ≤ length (parts .label)
     label-fits = omega (arith, ok .elements-fit, label-wide)
 
     pub loops-reach : LoopsReach (parts .label) (parts .looped) E
     loops-reach = record {
       label-long = label-fits;
-      looped-long = omega (arith, ok .elements-fit, ap (λ (p : Parts). length (p .looped)) parts-is ∙ looped-long from to closed K);
+      looped-long = omega (arith, ok .elements-fit, looped-wide);
     }
 
     pub labels-in : AllBelow 64 (parts .label) E

@@ -14,14 +14,14 @@ ghost use mathlib.Core.Path.{_≡_};
 ghost use Prim.Native.Nat.{_<_};
 ghost use lib.ListN.{length, replicate};
 ghost use Rattle.network.specs.Accepted.{WellFormed};
-ghost use Rattle.feeding.specs.Networks.{gridOf, netOf, at, isIn};
+ghost use Rattle.feeding.specs.Networks.{netOf, at, isIn};
 ghost use Rattle.feeding.specs.Parts.{closedIn};
 ghost use Rattle.feeding.specs.Acceptance.{safety};
 ghost use Rattle.feeding.specs.Below.{bits};
 ghost use Rattle.feeding_ends.specs.Ends.{ownEnds};
 ghost use Rattle.feeding_parts.specs.Labelling.{partsOf};
 ghost use Rattle.feeding_sets.specs.Sets.{oneOf};
-ghost use Rattle.feeding_safety.specs.Checks.{Checked, refused};
+ghost use Rattle.feeding_safety.specs.Checks.{refused};
 
 fn broken(rule: Rule, place: usize) -> Answer
     ensures { λ r. ⌜ r ≡ refused rule place ⌝ }
@@ -29,63 +29,8 @@ fn broken(rule: Rule, place: usize) -> Answer
     Answer::Refused(Refusal { rule, place })
 }
 
-// `check` on the lists that are lent.
-fn check_lists<'a>(
-    load: &'a [u32],
-    capacity: &'a [u32],
-    flags: &'a [u16],
-    from: &'a [u16],
-    to: &'a [u16],
-    head: &'a [u8],
-    next: &'a [u8],
-    far: &'a [u8],
-    closed: &'a [u8],
-    sound: &'a [u8],
-    faulty: &'a [u8],
-    parts: Parts,
-    elements: usize,
-    links: usize,
-) -> Answer
-    requires { ⌜ Checked (now load) (now capacity) (now flags) (now from) (now to) (now head) (now next) (now far) (now closed) elements links ⌝ }
-    requires { ⌜ now sound ≡ bits 96 elements (oneOf (now flags) 1 1) ⌝ }
-    requires { ⌜ now faulty ≡ bits 96 elements (oneOf (now flags) 2 3) ⌝ }
-    requires { ⌜ parts ≡ partsOf (now from) (now to) (now closed) links ⌝ }
-    ensures { λ r. ⌜ r ≡ safety (gridOf elements links (now (load .entry)) (now (capacity .entry)) (now (flags .entry)) (now (from .entry)) (now (to .entry))) (closedIn (now (closed .entry))) ⌝ }
-{
-    let label = parts.label;
-    let looped = parts.looped;
-    let tree = tree_place(&label, &looped, elements);
-    if tree < elements {
-        return broken(Rule::NotATree, tree);
-    }
-    let last = last_of_part(&label, sound, elements);
-    let pair = pair_place(&label, sound, &last, elements);
-    if pair < elements {
-        return broken(Rule::TwoSources, pair);
-    }
-    let fault = fault_place(&label, faulty, &last, elements);
-    if fault < elements {
-        return broken(Rule::FaultWithSource, fault);
-    }
-    let over = over_place(
-        head,
-        next,
-        far,
-        closed,
-        load,
-        capacity,
-        sound,
-        elements,
-        links,
-    );
-    if over < elements {
-        return broken(Rule::Overloaded, over);
-    }
-    Answer::Accepted
-}
-
-// The first of rules 14 to 17 that the configuration breaks; closed[l] is 1 for a closed link, `own` has the ends of all links, `sound` the sound
-// sources, `faulty` the faulty elements, and `parts` are those of the configuration.
+// The first of rules 14 to 17 that the configuration breaks; closed[l] is 1 for a closed link, `own` has the ends of all links, `sound` the sound sources,
+// `faulty` the faulty elements, and `parts` are those of the configuration.
 pub fn check<'a>(
     net: Network,
     own: OwnEnds,
@@ -102,28 +47,39 @@ pub fn check<'a>(
     requires { ⌜ parts ≡ partsOf (net .from) (net .to) (now closed) (net .links) ⌝ }
     ensures { λ r. ⌜ r ≡ safety (netOf net .grid) (closedIn (now (closed .entry))) ⌝ }
 {
-    let load = net.load;
-    let capacity = net.capacity;
-    let flags = net.flags;
-    let from = net.from;
-    let to = net.to;
+    let label = parts.label;
+    let looped = parts.looped;
+    let tree = tree_place(&label, &looped, net.elements);
+    if tree < net.elements {
+        return broken(Rule::NotATree, tree);
+    }
+    let last = last_of_part(&label, sound, net.elements);
+    let pair = pair_place(&label, sound, &last, net.elements);
+    if pair < net.elements {
+        return broken(Rule::TwoSources, pair);
+    }
+    let fault = fault_place(&label, faulty, &last, net.elements);
+    if fault < net.elements {
+        return broken(Rule::FaultWithSource, fault);
+    }
     let head = own.head;
     let next = own.next;
     let far = own.far;
-    check_lists(
-        &load,
-        &capacity,
-        &flags,
-        &from,
-        &to,
+    let load = net.load;
+    let capacity = net.capacity;
+    let over = over_place(
         &head,
         &next,
         &far,
         closed,
+        &load,
+        &capacity,
         sound,
-        faulty,
-        parts,
         net.elements,
         net.links,
-    )
+    );
+    if over < net.elements {
+        return broken(Rule::Overloaded, over);
+    }
+    Answer::Accepted
 }

@@ -12,8 +12,7 @@ ghost use Rattle.network.specs.Accepted.{WellFormed};
 ghost use Rattle.network.specs.Networks.{emptyNetwork};
 ghost use Rattle.feeding.specs.Below.{bits};
 ghost use Rattle.feeding.specs.Networks.{netOf};
-ghost use Rattle.feeding.specs.Parts.{live?, sound?};
-ghost use Rattle.feeding.specs.Restoration.{operable?, restorable?};
+ghost use Rattle.feeding.specs.Parts.{sound?};
 ghost use Rattle.feeding_parts.specs.Labelling.{partsOf};
 ghost use Rattle.feeding_start.specs.Starting.{allEnds, startOf};
 
@@ -54,27 +53,8 @@ impl Start {
     }
 }
 
-// The switches with an end that is dark and restorable at the start; `fixed` has the fixed links.
-fn operable_switches<'a>(
-    net: Network,
-    fixed: &'a [u8; 96],
-    live: &'a [u8; 96],
-    restorable: &'a [u8; 96],
-) -> [u8; 96]
-    requires { ⌜ WellFormed net ⌝ }
-    requires { ⌜ now fixed ≡ bits 96 (net .links) (netOf net .fixed) ⌝ }
-    requires { ⌜ now live ≡ bits 96 (net .elements) (live? (netOf net .grid) (netOf net .startClosed)) ⌝ }
-    requires { ⌜ now restorable ≡ bits 96 (net .elements) (restorable? (netOf net)) ⌝ }
-    ensures { λ r. ⌜ r ≡ bits 96 (net .links) (operable? (netOf net)) ⌝ }
-{
-    let from = net.from;
-    let to = net.to;
-    let waiting = except(restorable, live, net.elements);
-    let ends = at_either_end(&from, &to, &waiting, net.links);
-    except(&ends, fixed, net.links)
-}
-
-// From the ends of all links, the states at the start, the labels of their parts, the sound sources and the faulty elements.
+// From the ends of all links, the states at the start, the labels of their parts, the sound sources and the faulty elements. A switch is operable where
+// one of its ends is dark and restorable.
 pub fn start_of(
     net: Network,
     own: OwnEnds,
@@ -91,11 +71,15 @@ pub fn start_of(
     requires { ⌜ faulty ≡ bits 96 (net .elements) (netOf net .grid .faulty) ⌝ }
     ensures { λ r. ⌜ r ≡ startOf net ⌝ }
 {
+    let from = net.from;
+    let to = net.to;
     let form = net.form;
     let fixed = members_of(&form, 0, 0, net.links);
     let live = spread(&label, &sound, net.elements);
     let restorable = restorable_elements(net, &fixed, &faulty);
-    let operable = operable_switches(net, &fixed, &live, &restorable);
+    let waiting = except(&restorable, &live, net.elements);
+    let ends = at_either_end(&from, &to, &waiting, net.links);
+    let operable = except(&ends, &fixed, net.links);
     Start {
         net,
         own,

@@ -25,7 +25,7 @@ use Rattle.judge_marks.specs.declared.Score.{Score}
 use Rattle.judge_marks.specs.declared.Mark.{Mark}
 use Rattle.judge_marks.specs.declared.Mark.the-variants as Mark·
 use Rattle.judge_marks.specs.Marks.{StillDark, ValidBy, MarkedBy, Marked, broken, short, valid}
-use Rattle.judge_marks.specs.Marks.{stepsExamined, darkPlace, scoredBy, markAt, markAfter, markBy, costIn, cheapestCost, scored, markOf}
+use Rattle.judge_marks.specs.Marks.{stepsExamined, darkPlace, scoredBy, markAt, markAfter, markBy, costIn, cheapestUnder, cheapestCost, scored, markUnder, markOf}
 use Rattle.judge_marks.proofs.Examining.{examined-good, good-examined, examined-broken, broken-examined}
 
 module _ (net : Net) (formed : Formed (net .grid)) where
@@ -174,10 +174,10 @@ module _ (net : Net) (formed : Formed (net .grid)) where
 
   module _ (start-safe : Safe (net .grid) (net .startClosed)) where
     pub cheapest-least : (q : List Step) → ValidPlan net q → CostsLeast net (cheapestCost net)
-    unfolding cheapestCost costIn printedPlan
+    unfolding cheapestUnder costIn printedPlan
     cheapest-least q v = go (planned net) (planned-promised net formed start-safe)
       where
-        go : (x : Choice) → PromisedChoice net x → CostsLeast net (costIn net (printedPlan net x))
+        go : (x : Choice) → PromisedChoice net x → CostsLeast net (costIn (costOf net) (printedPlan net x))
         go nothing p = absurd (p q v)
         go (chosen D) p =
             subst (CostsLeast net) (p .own) (promised-least net (Operable net) (Restored net) (costOf net) (printedForm net D) _ p)
@@ -190,23 +190,23 @@ module _ (net : Net) (formed : Formed (net .grid)) where
     score-is = score-is-by (Operable net) (operable? net) (operable?-in net formed) (operable?-out net formed) (costOf net) (cheapestCost net) cheapest-least
 
     pub mark-marked : (q : List Step) → Marked net q (markOf net q)
-    unfolding markOf
+    unfolding markUnder
     mark-marked = mark-marked-by (Operable net) (operable? net) (operable?-in net formed) (operable?-out net formed) (costOf net) (cheapestCost net) cheapest-least
 
     pub marked-mark : (q : List Step) (m : Mark) → Marked net q m → m ≡ markOf net q
-    unfolding markOf
+    unfolding markUnder
     marked-mark = marked-mark-by (Operable net) (operable? net) (operable?-in net formed) (operable?-out net formed) (costOf net) (cheapestCost net) cheapest-least
 
     pub valid-exactly : (q : List Step)
         → (((v : Score) × (markOf net q ≡ Mark·.Valid v)) → ValidPlan net q) × (ValidPlan net q → (v : Score) × (markOf net q ≡ Mark·.Valid v))
-    unfolding markOf
+    unfolding markUnder
     valid-exactly = valid-exactly-by (Operable net) (operable? net) (operable?-in net formed) (operable?-out net formed) (costOf net) (cheapestCost net) cheapest-least
 
     pub excess-exactly : (q : List Step) (v : Score) → markOf net q ≡ Mark·.Valid v
         → (v .excess ≡ 0 → NoneCheaper net q) × (NoneCheaper net q → v .excess ≡ 0)
-    unfolding markOf
+    unfolding markUnder
     excess-exactly = excess-exactly-by (Operable net) (operable? net) (operable?-in net formed) (operable?-out net formed) (costOf net) (cheapestCost net) cheapest-least
 
     pub promised-marked : (q : List Step) (cost : ℕ) → Promised net q cost → markOf net q ≡ Mark·.Valid (record { cost = cost; excess = 0 })
-    unfolding markOf
+    unfolding markUnder
     promised-marked = promised-marked-by (Operable net) (operable? net) (operable?-in net formed) (operable?-out net formed) (costOf net) (cheapestCost net) cheapest-least

@@ -10,9 +10,10 @@ use Rattle.feeding.specs.Below.{Lowest, lowest}
 use Rattle.feeding.specs.Networks.{Net}
 use Rattle.feeding.specs.Parts.{Config, Live, live?}
 use Rattle.feeding.specs.Safety.{Safe, safe?}
-use Rattle.feeding.specs.Restoration.{Restorable, Operable, Restored, restorable?, operable?}
+use Rattle.feeding.specs.Restoration.{Restorable, Operable, Restored, restorable?}
+use Rattle.feeding.specs.Tasks.{Task, restoration}
 use Rattle.feeding.specs.Plans.{Step, Good, Valid, put, run, differ, costOf}
-use Rattle.plan_problem.specs.Choosing.{CostsLeastBy, Planning, unplanned, by, planning}
+use Rattle.plan_problem.specs.Choosing.{CostsLeastBy, Planning, unplanned, by, plannedBy, printedPlan}
 use Rattle.judge_marks.specs.declared.Reason.{Reason}
 use Rattle.judge_marks.specs.declared.Reason.the-variants.{NotOperable, AlreadySo, Unsafe}
 use Rattle.judge_marks.specs.declared.BadStep.{BadStep}
@@ -121,18 +122,26 @@ markAfter net score q (Bad b) = Mark·.Broken b
 unfoldable pub markBy : Net → (ℕ → Bool) → (List Step → ℕ) → ℕ → List Step → Mark
 markBy net op price cheapest q = markAfter net (scoredBy price cheapest q) q (stepsExamined net op (net .startClosed) 1 q)
 
--- ---- document 01
+-- ---- for a task
 
 -- the cost of the cheapest valid plan; 0 where there is none, and then no list of steps comes so far
-unfoldable pub costIn : Net → Planning → ℕ
-costIn net unplanned = 0
-costIn net (by q) = costOf net q
+unfoldable pub costIn : (List Step → ℕ) → Planning → ℕ
+costIn price unplanned = 0
+costIn price (by q) = price q
 
-unfoldable pub cheapestCost : Net → ℕ
-cheapestCost net = costIn net (planning net)
+unfoldable pub cheapestUnder : (net : Net) → Task net → ℕ
+cheapestUnder net t = costIn (t .cost) (printedPlan net (plannedBy net t))
+
+unfoldable pub markUnder : (net : Net) → Task net → List Step → Mark
+markUnder net t q = markBy net (t .operable?) (t .cost) (cheapestUnder net t) q
+
+-- ---- document 01
+
+abbrev pub cheapestCost : Net → ℕ
+cheapestCost net = cheapestUnder net (restoration net)
 
 abbrev pub scored : Net → List Step → Mark
 scored net q = scoredBy (costOf net) (cheapestCost net) q
 
-unfoldable pub markOf : Net → List Step → Mark
-markOf net q = markBy net (operable? net) (costOf net) (cheapestCost net) q
+abbrev pub markOf : Net → List Step → Mark
+markOf net q = markUnder net (restoration net) q

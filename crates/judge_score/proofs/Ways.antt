@@ -28,7 +28,7 @@ use Rattle.judge_marks.specs.declared.Examined.{Examined}
 use Rattle.judge_marks.specs.declared.Examined.the-variants.{AllGood, Bad}
 use Rattle.judge_marks.specs.declared.Mark.{Mark}
 use Rattle.judge_marks.specs.declared.Mark.the-variants as Mark·
-use Rattle.judge_marks.specs.Marks.{stepsExamined, darkPlace, scored, markAt, markAfter, markBy, markOf}
+use Rattle.judge_marks.specs.Marks.{stepsExamined, darkPlace, scored, markAt, markAfter, markBy, markUnder, markOf}
 use Rattle.judge_marks.proofs.Examining.{examined-good}
 use Rattle.judge_marks.proofs.Marking.{dark-restored, score-is, score-room}
 use Rattle.judge_steps.proofs.Front.{steps-below}
@@ -81,12 +81,12 @@ module _ (n : Network) (w : WellFormed n) (p : Plan) (v : WellFormedPlan (n .lin
       (netOf n .startClosed) (netOf n .startClosed) (λ _ _. refl) 1 (stepsOf p) (steps-below (n .links) p v)
 
   pub broken-mark : (b : BadStep) → x ≡ Bad b → Mark·.Broken b ≡ markOf (netOf n) (stepsOf p)
-  unfolding markOf markBy markAfter
+  unfolding markUnder markBy markAfter
   broken-mark b e = ap (markAfter (netOf n) (scored (netOf n) (stepsOf p)) (stepsOf p)) (sym e ∙ found-is)
 
   pub good-mark : x ≡ AllGood → (m : Mark)
       → m ≡ markAt (netOf n) (scored (netOf n) (stepsOf p)) (darkPlace (netOf n) (run (netOf n .startClosed) (stepsOf p))) → m ≡ markOf (netOf n) (stepsOf p)
-  unfolding markOf markBy markAfter
+  unfolding markUnder markBy markAfter
   good-mark e m h = h ∙ ap (markAfter (netOf n) (scored (netOf n) (stepsOf p)) (stepsOf p)) (sym e ∙ found-is)
 
   pub all-good : x ≡ AllGood → Good (netOf n) (Operable (netOf n)) (netOf n .startClosed) (stepsOf p)

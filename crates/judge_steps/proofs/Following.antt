@@ -20,7 +20,7 @@ use Rattle.feeding_sets.specs.Sets.{butNot}
 use Rattle.feeding_restoration.proofs.Sets.{set-at, fits}
 use Rattle.plan_form.specs.Printing.{stepsOf}
 use Rattle.judge_marks.specs.Marks.{darkPlace}
-use Rattle.judge_steps.specs.States.{statesRun}
+use Rattle.judge_steps.specs.States.{costBy, statesRun}
 use Rattle.judge_steps.proofs.Front.{stepsLeft, all-left, one-taken, none-left}
 
 -- ---- states
@@ -53,12 +53,8 @@ module _ (p : Plan) (start : List ℕ) where
 
 -- ---- cost
 
--- by a list of costs
-unfoldable pub costBy : List ℕ → List Step → ℕ
-costBy cost [] = 0
-costBy cost (s ∷ q) = at cost (s .link) + costBy cost q
-
-cost-by : (n : Network) (q : List Step) → costBy (n .cost) q ≡ costOf (netOf n) q
+-- by the network's list of costs
+pub cost-by : (n : Network) (q : List Step) → costBy (n .cost) q ≡ costOf (netOf n) q
 unfolding costBy costOf netOf
 cost-by n [] = refl
 cost-by n (s ∷ q) = ap (λ (x : ℕ). at (n .cost) (s .link) + x) (cost-by n q)
@@ -80,12 +76,9 @@ module _ (p : Plan) (cost : List ℕ) where
       let step : costBy cost (stepsLeft p i) ≡ at cost (at (p .link) i) + costBy cost (stepsLeft p (i + 1)) = ap (costBy cost) (one-taken p i k) in
       rw next (record { at-most = omega arith; small = omega arith; rest = omega arith })
 
-  pub paid-last : (n : Network) → cost ≡ n .cost → (sum i : ℕ) → Paid p cost sum i → p .steps ≤ i → sum ≡ costOf (netOf n) (stepsOf p)
+  pub paid-last : (sum i : ℕ) → Paid p cost sum i → p .steps ≤ i → sum ≡ costBy cost (stepsOf p)
   unfolding costBy
-  paid-last n e sum i now k =
-      let none : costBy cost (stepsLeft p i) ≡ 0 = ap (costBy cost) (none-left p i k) in
-      let all : costBy cost (stepsOf p) ≡ costOf (netOf n) (stepsOf p) = ap (λ (xs : List ℕ). costBy xs (stepsOf p)) e ∙ cost-by n (stepsOf p) in
-      omega (arith, now .rest)
+  paid-last sum i now k = let none : costBy cost (stepsLeft p i) ≡ 0 = ap (costBy cost) (none-left p i k) in omega (arith, now .rest)
 
 -- ---- what is still dark
 

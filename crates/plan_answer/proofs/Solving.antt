@@ -7,6 +7,7 @@ use Rattle.network.specs.declared.refusal.Refusal.{Refusal}
 use Rattle.file_network.specs.Inputs.{networkInput, networkRead}
 use Rattle.network.specs.declared.refusal.Answer.the-variants as Answer·
 use Rattle.feeding.specs.Networks.{netOf}
+use Rattle.feeding.specs.Plans.{costOf}
 use Rattle.feeding_acceptance.specs.declared.Admitted.{Admitted}
 use Rattle.feeding_acceptance.specs.Reading.{acceptedRead}
 use Rattle.feeding_start.specs.declared.Start.{Start}
@@ -19,16 +20,16 @@ use Rattle.plan_found.specs.declared.Found.{Found}
 use Rattle.plan_found.specs.Finding.{FoundBy}
 use Rattle.plan_outcome.specs.declared.Reply.the-variants as Reply·
 use Rattle.plan_outcome.specs.declared.Outcome.{Outcome}
-use Rattle.plan_outcome.specs.Outcomes.{outcomeOf, outcomeGiven, outcomeAnswered, outcomeRead, outcome}
+use Rattle.plan_outcome.specs.Outcomes.{outcomeFor, outcomeOf, outcomeGiven, outcomeAnswered, outcomeRead, outcome}
 use Rattle.plan_outcome.proofs.Solving.{given-found}
 
 -- the plan over the operable switches of an accepted network
 pub solved : (st : Start) → Begun st → (f : Found)
-    → FoundBy (st .net) (printedPlan (netOf (st .net)) (restoredOver (netOf (st .net)) (operableIn st))) f
+    → FoundBy (st .net) (costOf (netOf (st .net))) (printedPlan (netOf (st .net)) (restoredOver (netOf (st .net)) (operableIn st))) f
     → outcomeGiven (netOf (st .net)) f ≡ outcomeOf (st .net)
-unfolding outcomeOf plannedBy
-solved st b f found = given-found (st .net) (planning (netOf (st .net))) f
-    (subst (λ (ls : List ℕ). FoundBy (st .net) (printedPlan (netOf (st .net)) (restoredOver (netOf (st .net)) ls)) f) (operables-of st b) found)
+unfolding outcomeFor plannedBy
+solved st b f found = given-found (st .net) (costOf (netOf (st .net))) (planning (netOf (st .net))) f
+    (subst (λ (ls : List ℕ). FoundBy (st .net) (costOf (netOf (st .net))) (printedPlan (netOf (st .net)) (restoredOver (netOf (st .net)) ls)) f) (operables-of st b) found)
 
 -- ---- what was read, for the code that calls `read_accepted`
 

@@ -62,7 +62,7 @@ pub record Gathered (st : Start) (sw : Switches) (base : List ℕ) (layers : ℕ
   pub reach : SwitchReach (sw .link) (sw .count)
   pub base-is : base ≡ openedIn st
   pub lumped-is : lumped ≡ lumpedLayers (st .net) (sw .link) (sw .count) (st .sound) (record { base = base; load = st .net .load }) layers
-  pub chain-is : chain ≡ packedEnds (closableEnds (st .net) (sw .link) (sw .count) (lumped .base))
+  pub chain-is : chain ≡ packedEnds (closableEnds (st .net .from) (st .net .to) (st .net .links) (sw .link) (sw .count) (lumped .base))
   pub rating-is : rating ≡ packedRating (lumped .load) (st .net .capacity)
 
 -- how long the lists are with the spurs lumped
@@ -95,7 +95,7 @@ module _ (st : Start) (ok : Searchable st) where
   pub gathered : {sw : Switches} {base : List ℕ} {layers : ℕ} {lumped : Lumped} {chain rating : List ℕ}
       → sw ≡ switchList (st .net) (operableIn st) → base ≡ bits 96 (st .net .links) (butNot (st .closed) (st .operable))
       → lumped ≡ lumpedLayers (st .net) (sw .link) (sw .count) (st .sound) (record { base = base; load = st .net .load }) layers
-      → chain ≡ packedEnds (closableEnds (st .net) (sw .link) (sw .count) (lumped .base))
+      → chain ≡ packedEnds (closableEnds (st .net .from) (st .net .to) (st .net .links) (sw .link) (sw .count) (lumped .base))
       → rating ≡ packedRating (lumped .load) (st .net .capacity)
       → Gathered st sw base layers lumped chain rating
   gathered s b u a o =

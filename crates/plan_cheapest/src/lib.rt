@@ -39,7 +39,9 @@ pub fn cheapest_set(start: Start, switches: Switches) -> Best
     let layers = layers_for(switches.count);
     let lumped = lump_layers(net, base, &link, switches.count, &sound, layers);
     let left = lumped.base;
-    let own = closable_ends(net, left, &link, switches.count);
+    let from = net.from;
+    let to = net.to;
+    let own = closable_ends(&from, &to, net.links, left, &link, switches.count);
     let chain = packed_ends(own);
     let load = lumped.load;
     let capacity = net.capacity;

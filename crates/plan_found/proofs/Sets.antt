@@ -12,7 +12,7 @@ use Rattle.network.specs.declared.Network.{Network}
 use Rattle.network.specs.Accepted.{WellFormed}
 use Rattle.feeding.specs.Below.{gate}
 use Rattle.feeding.specs.Networks.{Net, gridOf, netOf, at, isIn}
-use Rattle.feeding.specs.Plans.{put, printedForm, flip, setCost}
+use Rattle.feeding.specs.Plans.{put, printedForm, flip, setCost, costOf}
 use Rattle.feeding.specs.Restoration.{operablesBy}
 use Rattle.feeding.proofs.Bits.{at-bits}
 use Rattle.feeding.proofs.Lows.{those-out}
@@ -102,7 +102,7 @@ module _ (st : Start) (ok : Searchable st) {sw : Switches} (sw-is : sw ≡ switc
         ∙ form-printed (netOf n) D operated (st .closed) (λ l k. in-set l (omega (arith, links-are))) bit-at
 
     pub set-plan : (cost : ℕ) (plan : Plan) → cost ≡ setCost (netOf n) D → plan ≡ planWith emptyPlan (formOf operated (st .closed) (n .links))
-        → FoundBy n (by (printedForm (netOf n) D)) (record { cost = cost; plan = plan; closed = states })
+        → FoundBy n (costOf (netOf n)) (by (printedForm (netOf n) D)) (record { cost = cost; plan = plan; closed = states })
     unfolding costFound planFound lastFound
     set-plan cost plan c p = record {
       cost = c ∙ sym (printed-cost (netOf n) D inside);
@@ -118,14 +118,14 @@ module _ (st : Start) (ok : Searchable st) (best : Best) (is : best ≡ cheapest
   own-cost = found-cost (operableIn st) (setCost (netOf (st .net))) (costs-below (st .net) (ok .formed)) (works? (netOf (st .net))) best is
 
   pub plan-found : (f : Found) → best .cost < 18446744073709551615
-      → FoundBy (st .net) (by (printedForm (netOf (st .net)) (setIn (operableIn st) (best .set)))) f
-      → FoundBy (st .net) (printedPlan (netOf (st .net)) (restoredOver (netOf (st .net)) (operableIn st))) f
+      → FoundBy (st .net) (costOf (netOf (st .net))) (by (printedForm (netOf (st .net)) (setIn (operableIn st) (best .set)))) f
+      → FoundBy (st .net) (costOf (netOf (st .net))) (printedPlan (netOf (st .net)) (restoredOver (netOf (st .net)) (operableIn st))) f
   unfolding printedPlan
   plan-found f h kept =
       rw (planned-found (operableIn st) (setCost (netOf (st .net))) (costs-below (st .net) (ok .formed)) (works? (netOf (st .net))) best is h) kept
 
   pub none-found : (plan : Plan) → 18446744073709551615 ≤ best .cost → plan ≡ emptyPlan
-      → FoundBy (st .net) (printedPlan (netOf (st .net)) (restoredOver (netOf (st .net)) (operableIn st)))
+      → FoundBy (st .net) (costOf (netOf (st .net))) (printedPlan (netOf (st .net)) (restoredOver (netOf (st .net)) (operableIn st)))
       (record { cost = 18446744073709551615; plan = plan; closed = st .closed })
   unfolding printedPlan costFound planFound lastFound
   none-found plan h p =

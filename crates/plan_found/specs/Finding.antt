@@ -2,11 +2,12 @@
 -- Internal: what computes; `PlannerReply` and `LibraryReply` of `planner` say which answers the paper asks for.
 -- Assumes nothing.
 use mathlib.Core.Path.{_≡_}
+use mathlib.Core.List.{List}
 use Prim.Native.Nat.{ℕ, _<_}
 use Rattle.network.specs.declared.Network.{Network}
 use Rattle.feeding.specs.Networks.{Net, netOf, isIn}
 use Rattle.feeding.specs.Parts.{Config}
-use Rattle.feeding.specs.Plans.{costOf, run}
+use Rattle.feeding.specs.Plans.{Step, run}
 use Rattle.file_plan.specs.declared.plan.Plan.{Plan}
 use Rattle.file_plan.specs.PlanFiles.{emptyPlan}
 use Rattle.plan_problem.specs.Choosing.{Planning, unplanned, by}
@@ -14,9 +15,9 @@ use Rattle.plan_form.specs.Printing.{planWith}
 use Rattle.plan_found.specs.declared.Found.{Found}
 
 -- no plan costs 2^64 - 1
-unfoldable pub costFound : Net → Planning → ℕ
-costFound net unplanned = 18446744073709551615
-costFound net (by q) = costOf net q
+unfoldable pub costFound : (List Step → ℕ) → Planning → ℕ
+costFound price unplanned = 18446744073709551615
+costFound price (by q) = price q
 
 unfoldable pub planFound : Planning → Plan
 planFound unplanned = emptyPlan
@@ -32,8 +33,9 @@ abbrev pub Told : Planning → ℕ → Type 0
 Told unplanned c = Unit {0}
 Told (by q) c = c < 18446744073709551615
 
-pub record FoundBy (n : Network) (p : Planning) (f : Found) : Type 0 where
-  pub cost : f .cost ≡ costFound (netOf n) p
+-- for any cost of lists of steps
+pub record FoundBy (n : Network) (price : List Step → ℕ) (p : Planning) (f : Found) : Type 0 where
+  pub cost : f .cost ≡ costFound price p
   pub told : Told p (f .cost)
   pub plan : f .plan ≡ planFound p
   pub closed : (l : ℕ) → l < n .links → isIn (f .closed) l ≡ lastFound (netOf n) p l

@@ -9,7 +9,7 @@ use plan_switches::switches_of;
 use plan_switches::with_set;
 ghost use mathlib.Core.Path.{_≡_};
 ghost use Rattle.feeding.specs.Networks.{netOf};
-ghost use Rattle.feeding.specs.Plans.{printedForm, setCost};
+ghost use Rattle.feeding.specs.Plans.{costOf, printedForm, setCost};
 ghost use Rattle.feeding_start.specs.Starting.{operableIn, Searchable};
 ghost use Rattle.plan_problem.specs.Choosing.{by, printedPlan, restoredOver};
 ghost use Rattle.plan_problem.specs.Sets.{setIn};
@@ -33,7 +33,7 @@ fn plan_of_set(start: Start, switches: Switches, best: Best) -> Found
     requires { ⌜ Searchable start ⌝ }
     requires { ⌜ switches ≡ switchList (start .net) (operableIn start) ⌝ }
     requires { ⌜ best .cost ≡ setCost (netOf (start .net)) (setIn (operableIn start) (best .set)) ⌝ }
-    ensures { λ r. ⌜ FoundBy (start .net) (by (printedForm (netOf (start .net)) (setIn (operableIn start) (best .set)))) r ⌝ }
+    ensures { λ r. ⌜ FoundBy (start .net) (costOf (netOf (start .net))) (by (printedForm (netOf (start .net)) (setIn (operableIn start) (best .set)))) r ⌝ }
 {
     let first = start.closed;
     let link = switches.link;
@@ -49,7 +49,7 @@ fn plan_of_set(start: Start, switches: Switches, best: Best) -> Found
 // The cheapest plan over the operable switches of the start.
 pub fn cheapest_plan(start: Start) -> Found
     requires { ⌜ Searchable start ⌝ }
-    ensures { λ r. ⌜ FoundBy (start .net) (printedPlan (netOf (start .net)) (restoredOver (netOf (start .net)) (operableIn start))) r ⌝ }
+    ensures { λ r. ⌜ FoundBy (start .net) (costOf (netOf (start .net))) (printedPlan (netOf (start .net)) (restoredOver (netOf (start .net)) (operableIn start))) r ⌝ }
 {
     let net = start.net;
     let operable = start.operable;

@@ -6,13 +6,14 @@ use mathlib.Core.Bool.{Bool, true, false}
 use mathlib.Core.List.{List}
 use native.Mathlib.Omega.{arith}
 use lib.Dec.{eqb, ltb}
+use lib.ListN.{length}
 use borrow.Author.Tests.{lt-ltb, le-ltb, ltb-true, eqb-true, eqb-false}
 use Rattle.network.specs.declared.Network.{Network}
 use Rattle.network.specs.Accepted.{WellFormed}
 use Rattle.feeding.specs.Below.{gate}
 use Rattle.feeding.specs.Networks.{at}
 use Rattle.feeding.proofs.Lows.{at-tabulate}
-use Rattle.feeding_ends.specs.Ends.{endAt, farAt, ownEnds}
+use Rattle.feeding_ends.specs.Ends.{TwoEnds, endAt, farAt, ownEnds}
 use Rattle.feeding_ends.proofs.Chains.{end-even, end-odd}
 use Rattle.feeding_loads.proofs.Same.{far-at}
 use Rattle.plan_spurs.specs.declared.Lumped.{Lumped}
@@ -34,11 +35,11 @@ module _ (n : Network) (link : List ℕ) (count : ℕ) (sound : List ℕ) (s : L
   no-layer = refl
 
   pub one-layer : (i : ℕ) (t : Lumped) → t ≡ lumpedLayers n link count sound s i
-      → lumpedTo (closableEnds n link count (t .base)) sound (n .capacity) t (n .elements) ≡ lumpedLayers n link count sound s (i + 1)
+      → lumpedTo (closableEnds (n .from) (n .to) (n .links) link count (t .base)) sound (n .capacity) t (n .elements) ≡ lumpedLayers n link count sound s (i + 1)
   unfolding lumpedLayers
   one-layer i t q =
       let more : suc i ≡ i + 1 = omega arith in
-      ap (λ (u : Lumped). lumpedTo (closableEnds n link count (u .base)) sound (n .capacity) u (n .elements)) q
+      ap (λ (u : Lumped). lumpedTo (closableEnds (n .from) (n .to) (n .links) link count (u .base)) sound (n .capacity) u (n .elements)) q
       ∙ ap (lumpedLayers n link count sound s) more
 
   pub layers-long : (i : ℕ) → AsLong s (lumpedLayers n link count sound s i)
@@ -46,7 +47,7 @@ module _ (n : Network) (link : List ℕ) (count : ℕ) (sound : List ℕ) (s : L
   layers-long zero = (refl, refl)
   layers-long (suc i) =
       let t = lumpedLayers n link count sound s i in
-      as-long s t (lumpedLayers n link count sound s (suc i)) (to-long (closableEnds n link count (t .base)) sound (n .capacity) t (n .elements)) (layers-long i)
+      as-long s t (lumpedLayers n link count sound s (suc i)) (to-long (closableEnds (n .from) (n .to) (n .links) link count (t .base)) sound (n .capacity) t (n .elements)) (layers-long i)
 
 -- the far elements are elements
 module _ (n : Network) (w : WellFormed n) (has : ℕ → Bool) where
@@ -65,3 +66,15 @@ module _ (n : Network) (w : WellFormed n) (has : ℕ → Bool) where
         at-tabulate 192 (λ j. gate (ltb j (2 * n .links)) (farAt (at (n .from)) (at (n .to)) j)) j k,
         ap (λ b. gate b (farAt (at (n .from)) (at (n .to)) j)) t,
       )
+
+-- what `own_ends` asks, of another set as long
+pub ends-of : {from to base has : List ℕ} {links : ℕ} → TwoEnds from to base links → length has ≡ 96 → TwoEnds from to has links
+ends-of t long = record {
+  fit = t .fit;
+  from-long = t .from-long;
+  to-long = t .to-long;
+  has-long = omega (arith, t .fit);
+  from-in = t .from-in;
+  to-in = t .to-in;
+  differ = t .differ;
+}

@@ -104,12 +104,12 @@ module _ (n : Network) (w : WellFormed n) (link closed : List ℕ) (count : ℕ)
     kept = record { base-long = before .base-long; load-long = before .load-long; load-in = before .load-in; left = λ l k. inl refl }
 
     next : (s : ℕ) → Same grid (formed-net n w) fit few has sound (n .capacity) capacity-is capacity-in sources
-        (over s) (t .base) (before .base-long) (laid s) t (lumpedTo (closableEnds n link count (t .base)) sound (n .capacity) t (n .elements))
+        (over s) (t .base) (before .base-long) (laid s) t (lumpedTo (closableEnds (n .from) (n .to) (n .links) link count (t .base)) sound (n .capacity) t (n .elements))
     unfolding netOf gridOf closableEnds
     next s = layer-same grid (formed-net n w) fit few has sound (n .capacity) capacity-is capacity-in sources
         (over s) (t .base) (before .base-long) (laid s) t kept (n .elements) (omega arith)
 
-    one-more : Layered (lumpedTo (closableEnds n link count (t .base)) sound (n .capacity) t (n .elements))
+    one-more : Layered (lumpedTo (closableEnds (n .from) (n .to) (n .links) link count (t .base)) sound (n .capacity) t (n .elements))
     unfolding netOf gridOf
     one-more = record {
       base-long = next 0 .kept .base-long;

@@ -19,8 +19,8 @@ unfoldable pub closableIn : (base link : List ℕ) (count : ℕ) → List ℕ
 closableIn base link count = withSet (at link) (at (replicate 16 1)) count 0 base
 
 -- their chained ends
-unfoldable pub closableEnds : Network → (link : List ℕ) (count : ℕ) (base : List ℕ) → OwnEnds
-closableEnds n link count base = ownEnds (at (n .from)) (at (n .to)) (isIn (closableIn base link count)) (n .links)
+unfoldable pub closableEnds : (from to : List ℕ) (links : ℕ) (link : List ℕ) (count : ℕ) (base : List ℕ) → OwnEnds
+closableEnds from to links link count base = ownEnds (at from) (at to) (isIn (closableIn base link count)) links
 
 -- how many layers are lumped where sets of n switches are to be tried
 unfoldable pub layersFor : ℕ → ℕ
@@ -31,4 +31,4 @@ unfoldable pub lumpedLayers : Network → (link : List ℕ) (count : ℕ) (sound
 lumpedLayers n link count sound s zero = s
 lumpedLayers n link count sound s (suc i) =
     let t = lumpedLayers n link count sound s i in
-    lumpedTo (closableEnds n link count (t .base)) sound (n .capacity) t (n .elements)
+    lumpedTo (closableEnds (n .from) (n .to) (n .links) link count (t .base)) sound (n .capacity) t (n .elements)

@@ -8,6 +8,7 @@ use plan_switches::with_set;
 ghost use mathlib.Core.Path.{_≡_};
 ghost use lib.ListN.{length};
 ghost use Rattle.network.specs.Accepted.{WellFormed};
+ghost use Rattle.feeding_ends.specs.Ends.{TwoEnds};
 ghost use Rattle.plan_switches.specs.Switches.{SwitchReach};
 ghost use Rattle.plan_lumping.specs.Layers.{closableEnds, layersFor, lumpedLayers};
 
@@ -18,16 +19,21 @@ const MANY_SWITCHES: usize = 10;
 const LAYERS: usize = 4;
 
 // The chained ends of the links that a set can leave closed: those in `base`, and the switches.
-pub fn closable_ends<'a>(net: Network, base: [u8; 96], link: &'a [u8; 16], count: usize) -> OwnEnds
-    requires { ⌜ WellFormed net ⌝ }
+pub fn closable_ends<'a>(
+    from: &'a [u16; 96],
+    to: &'a [u16; 96],
+    links: usize,
+    base: [u8; 96],
+    link: &'a [u8; 16],
+    count: usize,
+) -> OwnEnds
+    requires { ⌜ TwoEnds (now from) (now to) base links ⌝ }
     requires { ⌜ SwitchReach (now link) count × (length base ≡ 96) ⌝ }
-    ensures { λ r. ⌜ r ≡ closableEnds net (now (link .entry)) count base ⌝ }
+    ensures { λ r. ⌜ r ≡ closableEnds (now (from .entry)) (now (to .entry)) links (now (link .entry)) count base ⌝ }
 {
-    let from = net.from;
-    let to = net.to;
     let all: [u8; 16] = [1; 16];
     let closable = with_set(base, link, &all, count, 0);
-    own_ends(&from, &to, &closable, net.links)
+    own_ends(from, to, &closable, links)
 }
 
 // How many layers of spurs are lumped before sets of this many switches are tried.
@@ -53,13 +59,15 @@ pub fn lump_layers<'a>(
     requires { ⌜ SwitchReach (now link) count × (length base ≡ 96) ⌝ }
     ensures { λ r. ⌜ r ≡ lumpedLayers net (now (link .entry)) count (now (sound .entry)) (record { base = base; load = net .load }) layers ⌝ }
 {
+    let from = net.from;
+    let to = net.to;
     let capacity = net.capacity;
     let load = net.load;
     let mut lumped = Lumped { base, load };
     let mut i: usize = 0;
     while i < layers {
         let left = lumped.base;
-        let own = closable_ends(net, left, link, count);
+        let own = closable_ends(&from, &to, net.links, left, link, count);
         lumped = lump_spurs(own, sound, &capacity, lumped, net.elements);
         i += 1;
     }

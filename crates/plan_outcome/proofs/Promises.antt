@@ -32,7 +32,7 @@ use Rattle.plan_sums.proofs.Loads.{sums-in}
 use Rattle.plan_outcome.specs.declared.Planned.{Planned}
 use Rattle.plan_outcome.specs.declared.Reply.{Reply}
 use Rattle.plan_outcome.specs.declared.Reply.the-variants as Reply·
-use Rattle.plan_outcome.specs.Outcomes.{outcomeWith, outcomeWithout, outcomeFrom, outcomeOf, outcomeAnswered, outcomeRead, outcome}
+use Rattle.plan_outcome.specs.Outcomes.{outcomeWith, outcomeWithout, outcomeFrom, outcomeFor, outcomeOf, outcomeAnswered, outcomeRead, outcome}
 use Rattle.plan_outcome.specs.declared.Outcome.{Outcome}
 
 -- ---- what an outcome promises, in the paper's terms: the cases of the replies that `planner` promises
@@ -135,7 +135,7 @@ module _ (n : Network) (well : WellFormed n) (starts : Starts (netOf n)) where
         back : q ≡ stepsOf (planWith emptyPlan q)
         back = sym (steps-with q fit)
 
-    choice-kept : (c : Choice) → PromisedChoice (netOf n) c → OutcomeKept s (outcomeFrom n (printedPlan (netOf n) c))
+    choice-kept : (c : Choice) → PromisedChoice (netOf n) c → OutcomeKept s (outcomeFrom n (costOf (netOf n)) (printedPlan (netOf n) c))
     unfolding outcomeFrom outcomeWithout outcomeWith printedPlan
     choice-kept nothing promise =
         none-outcome s (sumsAfter (netOf n) (netOf n .startClosed)) emptyPlan (record {
@@ -150,7 +150,7 @@ module _ (n : Network) (well : WellFormed n) (starts : Starts (netOf n)) where
         (read-back (printedForm (netOf n) D) D (omega (arith, printed-length (netOf n) D, links-few)) promise)
 
     accepted-kept : OutcomeKept s (outcomeOf n)
-    unfolding outcomeOf
+    unfolding outcomeFor
     accepted-kept = choice-kept (planned (netOf n)) (planned-promised (netOf n) (formed-net n well) (starts .safe))
 
 -- ---- the outcome of any bytes

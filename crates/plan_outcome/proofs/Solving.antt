@@ -52,13 +52,13 @@ module _ (net : Net) (f : Found) where
   given-none h = rw (outcomeGiven, le-ltb (f .cost) 18446744073709551615 h)
 
 -- the theorem: the outcome of what was found is that of its plan
-pub given-found : (n : Network) (p : Planning) (f : Found) → FoundBy n p f → outcomeGiven (netOf n) f ≡ outcomeFrom n p
+pub given-found : (n : Network) (price : List Step → ℕ) (p : Planning) (f : Found) → FoundBy n price p f → outcomeGiven (netOf n) f ≡ outcomeFrom n price p
 unfolding outcomeFrom outcomeWith outcomeWithout costFound planFound lastFound netOf gridOf
-given-found n unplanned f found =
+given-found n price unplanned f found =
     sym (given-none (netOf n) f (omega (arith, found .cost)))
     ∙ ap₂ (λ (l : Sums) (p : Plan). record { reply = Reply·.NoPlan l; plan = p })
     (sums-same (netOf n) (closedIn (f .closed)) (netOf n .startClosed) (found .closed)) (found .plan)
-given-found n (by q) f found = sym (given-plan (netOf n) f (found .told)) ∙ rw (found .plan, found .cost, count, sums)
+given-found n price (by q) f found = sym (given-plan (netOf n) f (found .told)) ∙ rw (found .plan, found .cost, count, sums)
   where
     count : planWith emptyPlan q .steps ≡ length q
     count = omega (arith, with-count emptyPlan q, empty-steps)

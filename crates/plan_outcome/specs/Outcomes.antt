@@ -12,12 +12,13 @@ use Rattle.network.specs.declared.refusal.Answer.the-variants as Answer·
 use Rattle.file_network.specs.Inputs.{networkInput, networkRead}
 use Rattle.feeding.specs.Networks.{Net, netOf}
 use Rattle.feeding.specs.Parts.{closedIn}
-use Rattle.feeding.specs.Plans.{Step, costOf, run}
+use Rattle.feeding.specs.Plans.{Step, run}
+use Rattle.feeding.specs.Tasks.{Task, restoration}
 use Rattle.feeding_acceptance.specs.declared.Admitted.{Admitted}
 use Rattle.feeding_acceptance.specs.Reading.{acceptedRead}
 use Rattle.file_plan.specs.declared.plan.Plan.{Plan}
 use Rattle.file_plan.specs.PlanFiles.{emptyPlan}
-use Rattle.plan_problem.specs.Choosing.{Planning, unplanned, by, planning}
+use Rattle.plan_problem.specs.Choosing.{Planning, unplanned, by, plannedBy, printedPlan}
 use Rattle.plan_found.specs.declared.Found.{Found}
 use Rattle.plan_sums.specs.Sums.{sumsAfter}
 use Rattle.plan_form.specs.Printing.{planWith}
@@ -25,10 +26,10 @@ use Rattle.plan_outcome.specs.declared.Reply.the-variants as Reply·
 use Rattle.plan_outcome.specs.declared.Outcome.{Outcome}
 
 -- a plan of these steps
-unfoldable pub outcomeWith : Network → List Step → Outcome
-outcomeWith n q =
+unfoldable pub outcomeWith : Network → (List Step → ℕ) → List Step → Outcome
+outcomeWith n price q =
     record {
-      reply = Reply·.Plan (record { steps = length q; cost = costOf (netOf n) q; sums = sumsAfter (netOf n) (run (netOf n .startClosed) q) });
+      reply = Reply·.Plan (record { steps = length q; cost = price q; sums = sumsAfter (netOf n) (run (netOf n .startClosed) q) });
       plan = planWith emptyPlan q;
     }
 
@@ -37,12 +38,16 @@ unfoldable pub outcomeWithout : Network → Outcome
 outcomeWithout n = record { reply = Reply·.NoPlan (sumsAfter (netOf n) (netOf n .startClosed)); plan = emptyPlan }
 
 -- what an accepted network is answered, by the plan that was found, however that was
-unfoldable pub outcomeFrom : Network → Planning → Outcome
-outcomeFrom n unplanned = outcomeWithout n
-outcomeFrom n (by q) = outcomeWith n q
+unfoldable pub outcomeFrom : Network → (List Step → ℕ) → Planning → Outcome
+outcomeFrom n price unplanned = outcomeWithout n
+outcomeFrom n price (by q) = outcomeWith n price q
 
-unfoldable pub outcomeOf : Network → Outcome
-outcomeOf n = outcomeFrom n (planning (netOf n))
+-- for a task; document 01's
+unfoldable pub outcomeFor : (n : Network) → Task (netOf n) → Outcome
+outcomeFor n t = outcomeFrom n (t .cost) (printedPlan (netOf n) (plannedBy (netOf n) t))
+
+abbrev pub outcomeOf : Network → Outcome
+outcomeOf n = outcomeFor n (restoration (netOf n))
 
 -- the same from the arrays of what was found
 unfoldable pub outcomeGiven : Net → Found → Outcome

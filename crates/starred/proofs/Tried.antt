@@ -29,9 +29,9 @@ use Rattle.plan_form.specs.Printing.{withOne, planWith, stepsTo, stepsOf}
 use Rattle.file_writer.specs.Writing.{planHeadBytes, stepBytes, endBytes}
 use Rattle.texts.specs.Texts.{digits, decimal, field, lineOf, refusedLine}
 use Rattle.plan_lines.specs.Lines.{planLine, stepLine, stepLines, loadLine, textOf, replyText, tailLines, planLines, noneLines}
-use Rattle.plan_outcome.specs.Outcomes.{outcomeWith, outcomeWithout, outcomeFrom, outcomeOf, outcomeAnswered, outcomeRead, outcome}
+use Rattle.plan_outcome.specs.Outcomes.{outcomeWith, outcomeWithout, outcomeFrom, outcomeFor, outcomeAnswered, outcomeRead, outcome}
 use Rattle.planner.specs.Replies.{linesWith, linesOf}
-use Rattle.judge_marks.specs.Marks.{examined, firstBad, stepExamined, stepsExamined, darkPlace, scoredBy, markAt, markAfter, markBy, costIn, cheapestCost, markOf}
+use Rattle.judge_marks.specs.Marks.{examined, firstBad, stepExamined, stepsExamined, darkPlace, scoredBy, markAt, markAfter, markBy, costIn, cheapestUnder, markUnder}
 use Rattle.judge_line.specs.MarkLines.{markLine}
 use Rattle.judge.specs.Judging.{markAccepted, markRead, markOfRead, markFor}
 use Rattle.starred.specs.Tables.{head, element, joins, networkB, networkD, noSteps, closing, text, prints, plans, marks, cases}
@@ -44,8 +44,8 @@ unfolding emptyNetwork nextStage word lengthOf frameRules headRules elementRules
     lowestOver loopAt looped? paired? faultLive? treePlace pairPlace faultPlace safe? spoiled? clean restorable? waits? operable? operablesBy
     restored? fedLoad darkLoad lostLoad put run costOf sweep printedForm flip setCost brokenAt safety limited andThen acceptanceBy unadmitted handedOut startWith
     acceptedFrom acceptedRead worksBy firstIf noDearer better best plannedBy printedPlan sumsAfter emptyPlan withOne planWith endBytes digits decimal field planLine
-    stepLine stepLines loadLine textOf replyText tailLines planLines noneLines refusedLine outcomeWith outcomeWithout outcomeFrom outcomeOf outcomeAnswered outcomeRead
+    stepLine stepLines loadLine textOf replyText tailLines planLines noneLines refusedLine outcomeWith outcomeWithout outcomeFrom outcomeFor outcomeAnswered outcomeRead
     outcome linesWith linesOf withStep planEndOn stepsOn planFile planInput planBehind bothInput bothRead stepsTo stepsOf examined firstBad
-    stepExamined stepsExamined darkPlace scoredBy markAt markAfter markBy costIn cheapestCost markOf lineOf markLine markAccepted markRead markOfRead
+    stepExamined stepsExamined darkPlace scoredBy markAt markAfter markBy costIn cheapestUnder markUnder lineOf markLine markAccepted markRead markOfRead
     markFor planHeadBytes stepBytes head element joins networkB networkD noSteps closing text prints plans marks cases
 tried = refl

@@ -23,7 +23,7 @@ use Rattle.file_both.specs.Inputs.{planBehind, bothInput, bothRead}
 use Rattle.file_writer.specs.Writing.{planBytes, planLength}
 use Rattle.file_writer.proofs.RoundTrip.{SameSteps, firstSteps, first-same, round-trip-input}
 use Rattle.feeding.specs.Networks.{netOf, gridOf}
-use Rattle.feeding.specs.Plans.{Step, printedForm}
+use Rattle.feeding.specs.Plans.{Step, printedForm, costOf}
 use Rattle.plan_problem.specs.Choosing.{Choice, nothing, chosen, planned, printedPlan}
 use Rattle.feeding_start.specs.Starting.{startWith}
 use Rattle.plan_form.specs.Printing.{stepsTo, stepsOf}
@@ -39,7 +39,7 @@ use Rattle.judge.specs.Judging.{markAccepted, markRead, markOfRead, markFor}
 use Rattle.plan_outcome.specs.declared.Planned.{Planned}
 use Rattle.plan_outcome.specs.declared.Reply.the-variants as Reply·
 use Rattle.plan_outcome.specs.declared.Outcome as Outcomes·
-use Rattle.plan_outcome.specs.Outcomes.{outcomeWith, outcomeWithout, outcomeFrom, outcomeOf, outcomeAnswered, outcomeRead, outcome}
+use Rattle.plan_outcome.specs.Outcomes.{outcomeWith, outcomeWithout, outcomeFrom, outcomeFor, outcomeOf, outcomeAnswered, outcomeRead, outcome}
 use Rattle.file_refusals.proofs.Reading.{file-formed, network-read, both-read}
 use Rattle.feeding_acceptance.specs.Reading.{Bytes, AcceptedNetwork}
 use Rattle.judge.specs.Judging.{AcceptedPlan}
@@ -59,8 +59,8 @@ same-steps p q same = ap (stepsTo q) (same .steps) ∙ steps-to p q same (p .ste
 
 -- ---- the planner's plan is well formed
 
-chosen-formed : (n : Network) → WellFormed n → (c : Choice) (p : Planned) → outcomeFrom n (printedPlan (netOf n) c) .reply ≡ Reply·.Plan p
-    → WellFormedPlan (n .links) (outcomeFrom n (printedPlan (netOf n) c) .plan)
+chosen-formed : (n : Network) → WellFormed n → (c : Choice) (p : Planned) → outcomeFrom n (costOf (netOf n)) (printedPlan (netOf n) c) .reply ≡ Reply·.Plan p
+    → WellFormedPlan (n .links) (outcomeFrom n (costOf (netOf n)) (printedPlan (netOf n) c) .plan)
 unfolding outcomeFrom outcomeWithout outcomeWith printedPlan netOf gridOf
 chosen-formed n w nothing p e = let z : _≡_ {A = ℕ} 0 1 = cc in absurd (omega arith)
 chosen-formed n w (chosen D) p e =
@@ -72,7 +72,7 @@ module _ (s : List ℕ) (bytes : Bytes s) (n : Network) (a : AcceptedNetwork s n
   outcome-is = ap outcomeRead (sym (admission-only s bytes _ (Admissions.accepted n a)))
 
   plan-formed : (p : Planned) → outcome s .reply ≡ Reply·.Plan p → WellFormedPlan (n .links) (outcome s .plan)
-  unfolding outcomeOf
+  unfolding outcomeFor
   plan-formed p e =
       subst (λ (o : Outcomes·.Outcome). WellFormedPlan (n .links) (o .plan)) (sym outcome-is)
       (chosen-formed n (file-formed s bytes n (a .file)) (planned (netOf n)) p (ap (λ (o : Outcomes·.Outcome). o .reply) (sym outcome-is) ∙ e))

@@ -3,7 +3,8 @@
 use mathlib.Core.Path.{refl, sym, ap, _∙_}
 use native.Mathlib.Omega.{arith}
 use Rattle.feeding_restoration.proofs.Reach.{bits-long, bits-reach}
-use Rattle.feeding_start.proofs.Starts.{closed-of, operable-of}
+use Rattle.feeding_start.proofs.Starts.{sound-of, closed-of, operable-of}
+use Rattle.feeding_safety.proofs.Networks.{two-ends}
 use Rattle.feeding_walks.specs.Packing.{packedEnds}
 use Rattle.plan_problem.specs.Sets.{none}
 use Rattle.plan_candidates.proofs.Short.{none-works}
@@ -53,10 +54,11 @@ lump-layers-requires c κs =
 
 closable-ends-requires : tie.Need-closable-ends-requires
 closable-ends-requires c κs =
-    let pre· = c .before .before .before .before .before .before .before .before .before .before .before .before .before .before .before .before .pre in
-    let args· = c .before .before .before .before .before .before .before .before .before .before .before .before .before .before .before .before .args in
-    let except· = c .before .before .before .before .before .before .before .except in
-    (pre· .0 .formed, (switches-reach (args· .start) (pre· .0) (pre· .1), lumped-long (args· .start .net) (pre· .0 .formed) _ _ _ _ _ _ (bits-long _ _ _ (except· .ensures)) (c .before .before .lump-layers .ensures) .0))
+    let args· = c .before .before .before .before .before .before .before .before .before .before .before .before .before .before .before .before .before .before .before .before .args in
+    let pre· = c .before .before .before .before .before .before .before .before .before .before .before .before .before .before .before .before .before .before .before .before .pre in
+    let except· = c .before .before .before .before .before .before .before .before .before .before .before .except in
+    let lump-layers· = c .before .before .before .before .before .before .lump-layers in
+    (let long = lumped-long (args· .start .net) (pre· .0 .formed) _ _ _ _ _ _ (bits-long _ _ _ (except· .ensures)) (lump-layers· .ensures) .0 in (two-ends (args· .start .net) (pre· .0 .formed) _ long, (switches-reach (args· .start) (pre· .0) (pre· .1), long)))
 
 packed-ends-requires : tie.Need-packed-ends-requires
 packed-ends-requires c κs =
@@ -68,23 +70,23 @@ slice-aggregate-packed-rating c =
 
 slice-aggregate-packed-rating-2 : tie.Need-slice-aggregate-packed-rating-2
 slice-aggregate-packed-rating-2 c =
-    let pre· = c .before .before .before .before .before .before .before .before .before .before .before .before .before .before .before .before .before .before .before .before .before .before .pre in
+    let pre· = c .before .before .before .before .before .before .before .before .before .before .before .before .before .before .before .before .before .before .before .before .before .before .before .before .before .before .pre in
     sym (pre· .0 .formed .capacity-long)
 
 packed-rating-requires : tie.Need-packed-rating-requires
 packed-rating-requires c κs =
-    let args· = c .before .before .before .before .before .before .before .before .before .before .before .before .before .before .before .before .before .before .before .before .before .before .args in
-    let pre· = c .before .before .before .before .before .before .before .before .before .before .before .before .before .before .before .before .before .before .before .before .before .before .pre in
-    let except· = c .before .before .before .before .before .before .before .before .before .before .before .before .before .except in
-    let lump-layers· = c .before .before .before .before .before .before .before .before .lump-layers in
+    let args· = c .before .before .before .before .before .before .before .before .before .before .before .before .before .before .before .before .before .before .before .before .before .before .before .before .before .before .args in
+    let pre· = c .before .before .before .before .before .before .before .before .before .before .before .before .before .before .before .before .before .before .before .before .before .before .before .before .before .before .pre in
+    let except· = c .before .before .before .before .before .before .before .before .before .before .before .before .before .before .before .before .before .except in
+    let lump-layers· = c .before .before .before .before .before .before .before .before .before .before .before .before .lump-layers in
     (lumped-long (args· .start .net) (pre· .0 .formed) _ _ _ _ _ _ (bits-long _ _ _ (except· .ensures)) (lump-layers· .ensures) .1, (pre· .0) .formed .capacity-long)
 
 seek-candidates-requires : tie.Need-seek-candidates-requires
 seek-candidates-requires c κs =
-    let pre· = c .before .before .before .before .before .before .before .before .before .before .before .before .before .before .before .before .before .before .before .before .before .before .before .before .before .before .before .before .pre in
-    let args· = c .before .before .before .before .before .before .before .before .before .before .before .before .before .before .before .before .before .before .before .before .before .before .before .before .before .before .before .before .args in
-    let except· = c .before .before .before .before .before .before .before .before .before .before .before .before .before .before .before .before .before .before .before .except in
-    let lump-layers· = c .before .before .before .before .before .before .before .before .before .before .before .before .before .before .lump-layers in
+    let pre· = c .before .before .before .before .before .before .before .before .before .before .before .before .before .before .before .before .before .before .before .before .before .before .before .before .before .before .before .before .before .before .before .before .pre in
+    let args· = c .before .before .before .before .before .before .before .before .before .before .before .before .before .before .before .before .before .before .before .before .before .before .before .before .before .before .before .before .before .before .before .before .args in
+    let except· = c .before .before .before .before .before .before .before .before .before .before .before .before .before .before .before .before .before .before .before .before .before .before .before .except in
+    let lump-layers· = c .before .before .before .before .before .before .before .before .before .before .before .before .before .before .before .before .before .before .lump-layers in
     let packed-ends· = c .before .before .before .before .before .before .before .before .before .before .packed-ends in
     let closable-ends· = c .before .before .before .before .before .before .before .before .before .before .before .closable-ends in
     let packed-rating· = c .before .before .before .before .before .packed-rating in
@@ -100,10 +102,10 @@ array-read-set c =
 
 cast-set : tie.Need-cast-set
 cast-set c =
-    let args· = c .before .before .before .before .before .before .before .before .before .before .before .before .before .before .before .before .before .before .before .before .before .before .before .before .before .before .before .before .before .args in
-    let pre· = c .before .before .before .before .before .before .before .before .before .before .before .before .before .before .before .before .before .before .before .before .before .before .before .before .before .before .before .before .before .pre in
-    let except· = c .before .before .before .before .before .before .before .before .before .before .before .before .before .before .before .before .before .before .before .before .except in
-    let lump-layers· = c .before .before .before .before .before .before .before .before .before .before .before .before .before .before .before .lump-layers in
+    let args· = c .before .before .before .before .before .before .before .before .before .before .before .before .before .before .before .before .before .before .before .before .before .before .before .before .before .before .before .before .before .before .before .before .before .args in
+    let pre· = c .before .before .before .before .before .before .before .before .before .before .before .before .before .before .before .before .before .before .before .before .before .before .before .before .before .before .before .before .before .before .before .before .before .pre in
+    let except· = c .before .before .before .before .before .before .before .before .before .before .before .before .before .before .before .before .before .before .before .before .before .before .before .before .except in
+    let lump-layers· = c .before .before .before .before .before .before .before .before .before .before .before .before .before .before .before .before .before .before .before .lump-layers in
     let packed-ends· = c .before .before .before .before .before .before .before .before .before .before .before .packed-ends in
     let closable-ends· = c .before .before .before .before .before .before .before .before .before .before .before .before .closable-ends in
     let packed-rating· = c .before .before .before .before .before .before .packed-rating in
@@ -111,10 +113,10 @@ cast-set c =
 
 returns-2 : tie.Need-returns-2
 returns-2 c =
-    let args· = c .before .before .before .before .before .before .before .before .before .before .before .before .before .before .before .before .before .before .before .before .before .before .before .before .before .before .before .before .before .args in
-    let pre· = c .before .before .before .before .before .before .before .before .before .before .before .before .before .before .before .before .before .before .before .before .before .before .before .before .before .before .before .before .before .pre in
-    let except· = c .before .before .before .before .before .before .before .before .before .before .before .before .before .before .before .before .before .before .before .before .except in
-    let lump-layers· = c .before .before .before .before .before .before .before .before .before .before .before .before .before .before .before .lump-layers in
+    let args· = c .before .before .before .before .before .before .before .before .before .before .before .before .before .before .before .before .before .before .before .before .before .before .before .before .before .before .before .before .before .before .before .before .before .args in
+    let pre· = c .before .before .before .before .before .before .before .before .before .before .before .before .before .before .before .before .before .before .before .before .before .before .before .before .before .before .before .before .before .before .before .before .before .pre in
+    let except· = c .before .before .before .before .before .before .before .before .before .before .before .before .before .before .before .before .before .before .before .before .before .before .before .before .except in
+    let lump-layers· = c .before .before .before .before .before .before .before .before .before .before .before .before .before .before .before .before .before .before .before .lump-layers in
     let packed-ends· = c .before .before .before .before .before .before .before .before .before .before .before .packed-ends in
     let closable-ends· = c .before .before .before .before .before .before .before .before .before .before .before .before .closable-ends in
     let packed-rating· = c .before .before .before .before .before .before .packed-rating in

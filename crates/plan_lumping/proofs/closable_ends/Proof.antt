@@ -3,49 +3,37 @@
 use mathlib.Core.Path.{ap, _∙_}
 use mathlib.Core.List.{List}
 use Prim.Native.Nat.{ℕ}
+use native.Mathlib.Omega.{arith}
 use lib.ListN.{length}
-use borrow.Author.Needs.{needs}
 use Rattle.feeding.specs.Networks.{at, isIn}
 use Rattle.feeding_ends.specs.Ends.{ownEnds}
-use Rattle.feeding_safety.proofs.Networks.{two-ends}
 use Rattle.plan_switches.proofs.States.{length-states}
 use Rattle.plan_lumping.specs.Layers.{closableIn, closableEnds}
+use Rattle.plan_lumping.proofs.LayerByLayer.{ends-of}
+use borrow.Author.Needs.{needs}
 use Rattle.plan_lumping.proofs.closable_ends.Statement.{statement}
 use Rattle.plan_lumping.proofs.closable_ends.Tie as tie
 
 with-set-requires : tie.Need-with-set-requires
-with-set-requires c κs = c .before .before .before .pre .1 .0
+with-set-requires c κs =
+    c .before .pre .1 .0
 
 slice-aggregate-own-ends : tie.Need-slice-aggregate-own-ends
-slice-aggregate-own-ends c = search needs
-
-slice-aggregate-own-ends-2 : tie.Need-slice-aggregate-own-ends-2
-slice-aggregate-own-ends-2 c = search needs
-
-slice-aggregate-own-ends-3 : tie.Need-slice-aggregate-own-ends-3
-slice-aggregate-own-ends-3 c = search needs
+slice-aggregate-own-ends c =
+    search needs
 
 own-ends-requires : tie.Need-own-ends-requires
 own-ends-requires c κs =
-    let args· = c .before .before .before .before .before .before .before .args in
-    let pre· = c .before .before .before .before .before .before .before .pre in
-    two-ends (args· .net) (pre· .0) _ (ap length (c .before .before .before .with-set .ensures) ∙ length-states _ _ _ _ _ ∙ pre· .1 .1)
+    let pre· = c .before .before .before .before .before .pre in
+    ends-of (pre· .0) (ap length (c .before .before .before .with-set .ensures) ∙ length-states _ _ _ _ _ ∙ pre· .1 .1)
 
 returns : tie.Need-returns
 unfolding closableIn closableEnds
 returns c =
-    let args· = c .before .before .before .before .before .before .before .before .args in
+    let args· = c .before .before .before .before .before .before .args in
     let with-set· = c .before .before .before .before .with-set in
-    c .own-ends .ensures
-    ∙ ap (λ (xs : List ℕ). ownEnds (at (args· .net .from)) (at (args· .net .to)) (isIn xs) (args· .net .links)) (with-set· .ensures)
+    c .own-ends .ensures ∙ ap (λ (xs : List ℕ). ownEnds (at (args· .from .now)) (at (args· .to .now)) (isIn xs) (args· .links)) (with-set· .ensures)
 
 pub closable-ends-spec : {M : Type 1} → statement M
 closable-ends-spec =
-    tie.close
-    (tie.spec
-    with-set-requires
-    slice-aggregate-own-ends
-    slice-aggregate-own-ends-2
-    slice-aggregate-own-ends-3
-    own-ends-requires
-    returns)
+    tie.close (tie.spec with-set-requires slice-aggregate-own-ends own-ends-requires returns)
