@@ -2,6 +2,7 @@
 -- Assumes nothing.
 use mathlib.Core.Path.{_≡_, sym, ap, ap₂, _∙_}
 use mathlib.Core.Bool.{Bool, not, _&&_}
+use mathlib.Core.List.{List}
 use Prim.Native.Nat.{ℕ, _<_, _≤_}
 use native.Mathlib.Omega.{arith}
 use lib.ListN.{length}
@@ -10,7 +11,7 @@ use Rattle.network.specs.declared.Network.{Network}
 use Rattle.feeding.specs.Below.{gate}
 use Rattle.feeding.specs.Networks.{Net, gridOf, netOf}
 use Rattle.feeding.specs.Parts.{Config, closedIn}
-use Rattle.feeding.specs.Plans.{run}
+use Rattle.feeding.specs.Plans.{Step, run}
 use Rattle.feeding.specs.Restoration.{restorable?, fedLoad, darkLoad, lostLoad}
 use Rattle.feeding.proofs.States.{live-same}
 use Rattle.feeding.proofs.Sums.{sumTo-ext}

@@ -1,6 +1,5 @@
 -- The sum of the steps' costs: the sum so far and what the steps left cost are the whole cost.
 -- Assumes nothing.
-use borrow.Author.Needs.{needs}
 use Prim.Native.Nat.{_-_}
 use native.Mathlib.Omega.{arith}
 use Rattle.feeding.specs.Networks.{at}

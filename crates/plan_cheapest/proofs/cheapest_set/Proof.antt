@@ -3,7 +3,7 @@
 use mathlib.Core.Path.{refl, sym, ap, _∙_}
 use native.Mathlib.Omega.{arith}
 use Rattle.feeding_restoration.proofs.Reach.{bits-long, bits-reach}
-use Rattle.feeding_start.proofs.Starts.{sound-of, closed-of, operable-of}
+use Rattle.feeding_start.proofs.Starts.{closed-of, operable-of}
 use Rattle.feeding_safety.proofs.Networks.{two-ends}
 use Rattle.feeding_walks.specs.Packing.{packedEnds}
 use Rattle.plan_problem.specs.Sets.{none}

@@ -1,8 +1,7 @@
 -- `lump_layers` lumps layer after layer: after i turns it has what the definition has after i layers.
 -- Assumes nothing.
-use borrow.Author.Needs.{needs}
 use Prim.Native.Nat.{_-_, _≤_}
-use mathlib.Core.Path.{_≡_, sym, ap, _∙_}
+use mathlib.Core.Path.{_≡_, ap, _∙_}
 use native.Mathlib.Omega.{arith}
 use lib.ListN.{length}
 use Rattle.feeding_ends.specs.declared.OwnEnds.{OwnEnds}

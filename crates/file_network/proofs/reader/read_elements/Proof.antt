@@ -1,7 +1,7 @@
 -- `file_network::reader::read_elements` reads so many elements: at each turn what is left to read gives the whole outcome.
 -- Assumes nothing.
-use mathlib.Core.Path.{_≡_, refl, ap, sym, _∙_}
-use Prim.Native.Nat.{_+_, _-_, _<_, _≤_}
+use mathlib.Core.Path.{_≡_, refl, ap, _∙_}
+use Prim.Native.Nat.{_+_, _-_, _≤_}
 use native.Mathlib.Omega.{arith}
 use Rattle.file_stages.specs.declared.Stage.the-variants.{Elements}
 use Rattle.file_fields.specs.Views.{nothingSeen}
