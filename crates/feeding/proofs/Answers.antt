@@ -128,27 +128,27 @@ module _ (net : Net) (formed : Formed (net .grid)) (task : Task net) (laws : Law
   clear : {P : ℕ → Type 0} {x : ℕ} → Lowest (net .grid .E) P x → In net task x false → (e : ℕ) → e < net .grid .E → ¬ P e
   clear {P} {x} = none-below (net .grid .E) P x
 
-  pub acceptance-answered : AnsweredBy net task (acceptanceBy net task)
+  pub acceptance-answered : AnsweredBy net (task .operable) (task .limit) (acceptanceBy net task)
   acceptance-answered =
       go (ltb (tree net) (net .grid .E)) refl (ltb (pair net) (net .grid .E)) refl
       (ltb (fault net) (net .grid .E)) refl (ltb (over net) (net .grid .E)) refl
     where
-      counted : Kept (net .grid) (net .startClosed) → (x : Bool) → ltb (task .limit) (length (operablesBy net (task .operable?))) ≡ x → AnsweredBy net task (acceptanceBy net task)
+      counted : Kept (net .grid) (net .startClosed) → (x : Bool) → ltb (task .limit) (length (operablesBy net (task .operable?))) ≡ x → AnsweredBy net (task .operable) (task .limit) (acceptanceBy net task)
       counted k true n =
-          subst (AnsweredBy net task) (sym (gives-18 net task k n))
+          subst (AnsweredBy net (task .operable) (task .limit)) (sym (gives-18 net task k n))
           (too-many (kept-safe (net .grid) formed (net .startClosed) k) (operables-counted net task laws) (ltb-true _ _ n))
       counted k false n =
-          subst (AnsweredBy net task) (sym (gives-accepted net task k n))
+          subst (AnsweredBy net (task .operable) (task .limit)) (sym (gives-accepted net task k n))
           (accepted (kept-safe (net .grid) formed (net .startClosed) k) (operables-counted net task laws) (ltb-false _ _ n))
 
       go : (t : Bool) → In net task (tree net) t → (u : Bool) → In net task (pair net) u → (v : Bool) → In net task (fault net) v
-          → (w : Bool) → In net task (over net) w → AnsweredBy net task (acceptanceBy net task)
-      go true t u p v f w o = subst (AnsweredBy net task) (sym (gives-14 net task t)) (not-a-tree (ltb-true _ _ t) low-tree)
-      go false t true p v f w o = subst (AnsweredBy net task) (sym (gives-15 net task t p)) (two-sources (trees t) (ltb-true _ _ p) low-pair)
+          → (w : Bool) → In net task (over net) w → AnsweredBy net (task .operable) (task .limit) (acceptanceBy net task)
+      go true t u p v f w o = subst (AnsweredBy net (task .operable) (task .limit)) (sym (gives-14 net task t)) (not-a-tree (ltb-true _ _ t) low-tree)
+      go false t true p v f w o = subst (AnsweredBy net (task .operable) (task .limit)) (sym (gives-15 net task t p)) (two-sources (trees t) (ltb-true _ _ p) low-pair)
       go false t false p true f w o =
-          subst (AnsweredBy net task) (sym (gives-16 net task t p f)) (fault-with-source (trees t) (clear low-pair p) (ltb-true _ _ f) low-fault)
+          subst (AnsweredBy net (task .operable) (task .limit)) (sym (gives-16 net task t p f)) (fault-with-source (trees t) (clear low-pair p) (ltb-true _ _ f) low-fault)
       go false t false p false f true o =
-          subst (AnsweredBy net task) (sym (gives-17 net task t p f o))
+          subst (AnsweredBy net (task .operable) (task .limit)) (sym (gives-17 net task t p f o))
           (overloaded (trees t) (clear low-pair p) (clear low-fault f) (ltb-true _ _ o) (low-over (trees t)))
       go false t false p false f false o = counted (record { tree = t; pair = p; fault = f; load = o }) (ltb (task .limit) (length (operablesBy net (task .operable?)))) refl
 
@@ -166,7 +166,7 @@ module _ (net : Net) (formed : Formed (net .grid)) (task : Task net) (laws : Law
   all-counted : {n : ℕ} → Operables (task .operable) n → n ≡ length (operablesBy net (task .operable?))
   all-counted {n} o = operables-unique (task .operable) n (length (operablesBy net (task .operable?))) o (operables-counted net task laws)
 
-  pub answered-acceptance : (a : Answer) → AnsweredBy net task a → a ≡ acceptanceBy net task
+  pub answered-acceptance : (a : Answer) → AnsweredBy net (task .operable) (task .limit) a → a ≡ acceptanceBy net task
   answered-acceptance _ (not-a-tree k low) =
       let r = placed low-tree low k in
       ap (refused NotATree) (r .0) ∙ sym (gives-14 net task (r .1))

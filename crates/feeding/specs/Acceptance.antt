@@ -15,30 +15,30 @@ use Rattle.feeding.specs.Below.{Lowest}
 use Rattle.feeding.specs.Loads.{lowestOver}
 use Rattle.feeding.specs.Loads as Loads
 use Rattle.feeding.specs.Safety.{Tree, Paired, FaultLive, Safe, treePlace, pairPlace, faultPlace}
-use Rattle.feeding.specs.Restoration.{Operables, operablesBy}
-use Rattle.feeding.specs.Tasks.{Task, restoration}
+use Rattle.feeding.specs.Restoration.{Operable, Operables, operablesBy}
+use Rattle.feeding.specs.Tasks.{Task, mostOperable, restoration}
 
--- What the paper says, rule by rule in its order, for any task: each refusal with its place, where the rules before it are kept. `acceptance-answered`
+-- What the paper says, rule by rule in its order, for any operable set and limit: each refusal with its place, where the rules before it are kept. `acceptance-answered`
 -- and `answered-acceptance` say that `acceptance` gives this answer and no other.
-pub data AnsweredBy (net : Net) (t : Task net) : Answer → Type 0 where
+pub data AnsweredBy (net : Net) (op : ℕ → Type 0) (limit : ℕ) : Answer → Type 0 where
   -- "14. At the start a part isn't a tree (the lowest element of such a part)."
   not-a-tree : {p : ℕ}
       → p < net .grid .E
       → Lowest (net .grid .E) (λ e. ¬ Tree (net .grid) (net .startClosed) e) p
-      → AnsweredBy net t (Refused (record { rule = NotATree; place = p }))
+      → AnsweredBy net op limit (Refused (record { rule = NotATree; place = p }))
   -- "15. At the start a part has two sound sources (the lowest such source)."
   two-sources : {p : ℕ}
       → ((e : ℕ) → e < net .grid .E → Tree (net .grid) (net .startClosed) e)
       → p < net .grid .E
       → Lowest (net .grid .E) (Paired (net .grid) (net .startClosed)) p
-      → AnsweredBy net t (Refused (record { rule = TwoSources; place = p }))
+      → AnsweredBy net op limit (Refused (record { rule = TwoSources; place = p }))
   -- "16. At the start a part has a faulty element and a sound source (the lowest such faulty element)."
   fault-with-source : {p : ℕ}
       → ((e : ℕ) → e < net .grid .E → Tree (net .grid) (net .startClosed) e)
       → ((e : ℕ) → e < net .grid .E → ¬ Paired (net .grid) (net .startClosed) e)
       → p < net .grid .E
       → Lowest (net .grid .E) (FaultLive (net .grid) (net .startClosed)) p
-      → AnsweredBy net t (Refused (record { rule = FaultWithSource; place = p }))
+      → AnsweredBy net op limit (Refused (record { rule = FaultWithSource; place = p }))
   -- "17. At the start a live element is loaded above its capacity (the lowest such element)."
   overloaded : {p : ℕ}
       → ((e : ℕ) → e < net .grid .E → Tree (net .grid) (net .startClosed) e)
@@ -46,17 +46,17 @@ pub data AnsweredBy (net : Net) (t : Task net) : Answer → Type 0 where
       → ((e : ℕ) → e < net .grid .E → ¬ FaultLive (net .grid) (net .startClosed) e)
       → p < net .grid .E
       → Lowest (net .grid .E) (Loads.Overloaded (net .grid) (net .startClosed)) p
-      → AnsweredBy net t (Refused (record { rule = Overloaded; place = p }))
+      → AnsweredBy net op limit (Refused (record { rule = Overloaded; place = p }))
   -- "18. More than 12 switches are operable (their count)."
   too-many : {n : ℕ}
       → Safe (net .grid) (net .startClosed)
-      → Operables (t .operable) n
-      → t .limit < n
-      → AnsweredBy net t (Refused (record { rule = TooManyOperable; place = n }))
-  accepted : {n : ℕ} → Safe (net .grid) (net .startClosed) → Operables (t .operable) n → n ≤ t .limit → AnsweredBy net t Accepted
+      → Operables op n
+      → limit < n
+      → AnsweredBy net op limit (Refused (record { rule = TooManyOperable; place = n }))
+  accepted : {n : ℕ} → Safe (net .grid) (net .startClosed) → Operables op n → n ≤ limit → AnsweredBy net op limit Accepted
 
 abbrev pub Answered : Net → Answer → Type 0
-Answered net a = AnsweredBy net (restoration net) a
+Answered net a = AnsweredBy net (Operable net) mostOperable a
 
 -- what acceptance promises: a safe start, and no more operable switches than the limit
 pub record StartsBy (net : Net) (t : Task net) : Type 0 where

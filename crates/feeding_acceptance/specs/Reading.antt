@@ -32,10 +32,10 @@ pub data FirstRule (s : List ℕ) : Refusal → Type 0 where
   in-bytes : {f : Refusal} → FirstBroken s f → FirstRule s f
   in-network : {f : Refusal} (n : Network) → NetworkOf s n → Answered (netOf n) (Refused f) → FirstRule s f
 
--- what s is admitted as: the start of an accepted network; "A refusal hands out no plan, mark or partial network."
-pub data Admission (s : List ℕ) : Admitted → Type 0 where
-  refused : {f : Refusal} → FirstRule s f → Admission s (record { answer = Refused f; start = startOf emptyNetwork })
-  accepted : (n : Network) → AcceptedNetwork s n → Admission s (record { answer = Accepted; start = startOf n })
+-- what s is answered, and the network that is handed out: "A refusal hands out no plan, mark or partial network."
+pub data Admission (s : List ℕ) : Answer → Network → Type 0 where
+  refused : {f : Refusal} → FirstRule s f → Admission s (Refused f) emptyNetwork
+  accepted : (n : Network) → AcceptedNetwork s n → Admission s Accepted n
 
 -- ---- what computes
 

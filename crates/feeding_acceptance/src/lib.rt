@@ -85,7 +85,7 @@ pub fn accept(net: Network) -> Admitted
 // The planner's input: rules 1 to 13, then 14 to 18.
 pub fn read_accepted(s: &[u8]) -> Admitted
     ensures { λ r. ⌜ r ≡ acceptedRead (networkRead (networkInput (now (s .entry)))) ⌝ }
-    ensures { λ r. ⌜ Admission (now (s .entry)) r ⌝ }
+    ensures { λ r. ⌜ Admission (now (s .entry)) (r .answer) (r .start .net) ⌝ }
 {
     let read = read_network(s);
     let answer = read.answer;

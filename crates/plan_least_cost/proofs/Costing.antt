@@ -6,10 +6,10 @@ use Prim.Native.Nat.{ℕ, _≤_, _<_}
 use native.Mathlib.Omega.{arith}
 use Rattle.network.specs.declared.Network.{Network}
 use Rattle.network.specs.declared.refusal.Refusal.{Refusal}
+use Rattle.network.specs.declared.refusal.Answer.{Answer}
 use Rattle.network.specs.declared.refusal.Answer.the-variants as Answer·
-use Rattle.feeding_acceptance.specs.declared.Admitted.{Admitted}
 use Rattle.feeding_start.specs.declared.Start.{Start}
-use Rattle.feeding_start.specs.Starting.{startWith, operableIn, Begun}
+use Rattle.feeding_start.specs.Starting.{operableIn, Begun}
 use Rattle.feeding_start.proofs.Starts.{operables-of}
 use Rattle.feeding.specs.Networks.{Net, netOf}
 use Rattle.feeding.specs.Plans.{costOf, setCost}
@@ -52,13 +52,10 @@ module _ (st : Start) (b : Begun st) (best : Best) (is : best ≡ cheapestBy (op
 
 -- ---- of the bytes s, by what was read
 
-pub cheapest-bytes : (s : List ℕ) (read : Admitted) → Admission s read → read .answer ≡ Answer·.Accepted
-    → (r : Cheapest) → CheapestIn (netOf (read .start .net)) r → CheapestFor s r
-unfolding startWith
-cheapest-bytes s _ (Reading.refused _) e r h = let z : _≡_ {A = ℕ} 0 1 = cc in absurd (omega arith)
-cheapest-bytes s _ (Reading.accepted n a) e r h = LeastCost.accepted n a h
+pub cheapest-bytes : (s : List ℕ) (a : Answer) (n : Network) → Admission s a n → a ≡ Answer·.Accepted → (r : Cheapest) → CheapestIn (netOf n) r → CheapestFor s r
+cheapest-bytes s _ _ (Reading.refused _) e r h = let z : _≡_ {A = ℕ} 0 1 = cc in absurd (omega arith)
+cheapest-bytes s _ _ (Reading.accepted n a) e r h = LeastCost.accepted n a h
 
-pub cheapest-refused : (s : List ℕ) (read : Admitted) → Admission s read → (f : Refusal) → read .answer ≡ Answer·.Refused f
-    → CheapestFor s (Cheapest·.Refused f)
-cheapest-refused s _ (Reading.refused b) f e = LeastCost.refused (subst (FirstRule s) (same-refusal e) b)
-cheapest-refused s _ (Reading.accepted _ _) f e = let z : _≡_ {A = ℕ} 0 1 = cc in absurd (omega arith)
+pub cheapest-refused : (s : List ℕ) (a : Answer) (n : Network) → Admission s a n → (f : Refusal) → a ≡ Answer·.Refused f → CheapestFor s (Cheapest·.Refused f)
+cheapest-refused s _ _ (Reading.refused b) f e = LeastCost.refused (subst (FirstRule s) (same-refusal e) b)
+cheapest-refused s _ _ (Reading.accepted _ _) f e = let z : _≡_ {A = ℕ} 0 1 = cc in absurd (omega arith)

@@ -17,7 +17,7 @@ use Rattle.file_network.specs.Runs as Runs
 use Rattle.feeding.specs.Networks.{Net, netOf}
 use Rattle.feeding.specs.Plans.{Step, ValidPlan, costOf, printedForm}
 use Rattle.feeding_acceptance.specs.Reading.{acceptedRead, Bytes, AcceptedNetwork, FirstRule}
-use Rattle.feeding_acceptance.specs.Reading as Reading
+use Rattle.feeding_acceptance.proofs.Promises as Admissions
 use Rattle.feeding_acceptance.proofs.Promises.{admission-only, network-once, accepted-unrefused}
 use Rattle.feeding_start.specs.Starting.{startWith}
 use Rattle.plan_problem.specs.Choosing.{Promised, NoPlan}
@@ -63,7 +63,7 @@ module _ (s : List ℕ) (bytes : Bytes s) where
   pub refused-exactly : (f : Refusal) → (FirstRule s f → outcome s .reply ≡ Reply·.Refused f) × (outcome s .reply ≡ Reply·.Refused f → FirstRule s f)
   unfolding outcome outcomeRead outcomeAnswered startWith
   refused-exactly f = (
-    λ r. ap (λ (x : Admitted). outcomeRead x .reply) (sym (admission-only s bytes _ (Reading.refused r))),
+    λ r. ap (λ (x : Admitted). outcomeRead x .reply) (sym (admission-only s bytes _ (Admissions.refused r))),
     λ e. outcome-kept s bytes .refused f e,
   )
 

@@ -1,4 +1,4 @@
--- Demands 1, 2 and 3 for the planner's outcome: each case of `Admission` ends in one case of the outcome, which the choice's promise covers.
+-- Demands 1, 2 and 3 for the planner's outcome: each case of `Admits` ends in one case of the outcome, which the choice's promise covers.
 -- Assumes nothing.
 use mathlib.Core.Path.{_≡_, sym, ap, subst}
 use mathlib.Core.Bool.{Bool}
@@ -16,9 +16,9 @@ use Rattle.feeding.specs.Networks.{netOf, gridOf}
 use Rattle.feeding.specs.Plans.{Step, costOf, printedForm, run, setCost}
 use Rattle.feeding.proofs.Balance.{balance}
 use Rattle.feeding.proofs.Views.{formed-net, fixed-closed, plan-balance}
-use Rattle.feeding_acceptance.specs.Reading.{acceptedRead, Bytes, AcceptedNetwork, FirstRule, Admission}
-use Rattle.feeding_acceptance.specs.Reading as Reading
-use Rattle.feeding_acceptance.proofs.Promises.{input-admission, network-starts}
+use Rattle.feeding_acceptance.specs.Reading.{acceptedRead, Bytes, AcceptedNetwork, FirstRule}
+use Rattle.feeding_acceptance.proofs.Promises.{Admits, input-admission, network-starts}
+use Rattle.feeding_acceptance.proofs.Promises as Admissions
 use Rattle.feeding_start.specs.Starting.{startWith}
 use Rattle.file_plan.specs.declared.plan.Plan.{Plan}
 use Rattle.file_plan.specs.PlanFiles.{emptyPlan}
@@ -156,10 +156,10 @@ module _ (n : Network) (well : WellFormed n) (starts : Starts (netOf n)) where
 -- ---- the outcome of any bytes
 
 module _ (s : List ℕ) (bytes : Bytes s) where
-  read-kept : (r : Admitted) → Admission s r → OutcomeKept s (outcomeRead r)
+  read-kept : (r : Admitted) → Admits s r → OutcomeKept s (outcomeRead r)
   unfolding outcomeRead outcomeAnswered startWith
-  read-kept _ (Reading.refused {f = f} b) = refused-outcome s f emptyPlan b
-  read-kept _ (Reading.accepted n a) =
+  read-kept _ (Admissions.refused {f = f} b) = refused-outcome s f emptyPlan b
+  read-kept _ (Admissions.accepted n a) =
       let starts = network-starts s bytes n a in
       accepted-kept n (starts .0) (starts .1) s a
 

@@ -28,7 +28,7 @@ use Rattle.plan_problem.specs.Choosing.{Choice, nothing, chosen, planned, print
 use Rattle.feeding_start.specs.Starting.{startWith}
 use Rattle.plan_form.specs.Printing.{stepsTo, stepsOf}
 use Rattle.plan_form.proofs.Steps.{plan-well-formed, printed-length, printed-below}
-use Rattle.feeding_acceptance.specs.Reading as Admissions
+use Rattle.feeding_acceptance.proofs.Promises as Admissions
 use Rattle.feeding_acceptance.proofs.Promises.{admission-only, network-starts}
 use Rattle.feeding.proofs.Views.{formed-net, answered-network}
 use Rattle.plan_outcome.proofs.Promises.{outcome-kept}

@@ -28,15 +28,13 @@ enum-known-verdict c =
 returns : tie.Need-returns
 returns c =
     let args· = c .before .before .before .before .before .args in
-    let read-accepted· = c .before .before .before .read-accepted in
     let cheapest-cost· = c .cheapest-cost in
-    cheapest-bytes (args· .s .now) (read-accepted· .result) (read-accepted· .ensures .1) (c .before .enum-told .given .1) (cheapest-cost· .result) (cheapest-cost· .ensures)
+    cheapest-bytes (args· .s .now) _ _ (c .before .before .before .read-accepted .ensures .1) (c .before .enum-told .given .1) (cheapest-cost· .result) (cheapest-cost· .ensures)
 
 returns-2 : tie.Need-returns-2
 returns-2 c =
     let args· = c .before .before .before .before .before .args in
-    let read-accepted· = c .before .before .before .read-accepted in
-    cheapest-refused (args· .s .now) (read-accepted· .result) (read-accepted· .ensures .1) _ (c .before .verdict .given .1)
+    cheapest-refused (args· .s .now) _ _ (c .before .before .before .read-accepted .ensures .1) _ (c .before .verdict .given .1)
 
 pub cheapest-in-spec : {M : Type 1} → statement M
 cheapest-in-spec =
