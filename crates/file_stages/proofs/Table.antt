@@ -14,7 +14,7 @@ use Rattle.file_stages.specs.declared.Stage.{Stage}
 use Rattle.file_stages.specs.declared.Stage.the-variants.{Head, Elements, Links, End, PlanHead, Steps, PlanEnd, Over}
 use Rattle.file_stages.specs.declared.Next.{Next}
 use Rattle.file_stages.specs.declared.Next.the-variants.{Go, Refused}
-use Rattle.file_stages.specs.Stages.{stageNumber, nextStage}
+use Rattle.file_stages.specs.Stages.{namedBy, stageNumber, nextStage}
 
 abbrev both : Bool → Bool → Bool
 both true b = b
@@ -55,19 +55,8 @@ code : Next → ℕ
 code Refused = 8
 code (Go s) = stageNumber s
 
-decode : ℕ → Next
-decode zero = Go Head
-decode (suc zero) = Go Elements
-decode (suc (suc zero)) = Go Links
-decode (suc (suc (suc zero))) = Go End
-decode (suc (suc (suc (suc zero)))) = Go PlanHead
-decode (suc (suc (suc (suc (suc zero))))) = Go Steps
-decode (suc (suc (suc (suc (suc (suc zero)))))) = Go PlanEnd
-decode (suc (suc (suc (suc (suc (suc (suc zero))))))) = Go Over
-decode (suc (suc (suc (suc (suc (suc (suc (suc n)))))))) = Refused
-
-decoded : (n : Next) → decode (code n) ≡ n
-unfolding code decode
+decoded : (n : Next) → namedBy (code n) ≡ n
+unfolding code namedBy
 decoded Refused = refl
 decoded (Go Head) = refl
 decoded (Go Elements) = refl
@@ -78,24 +67,21 @@ decoded (Go Steps) = refl
 decoded (Go PlanEnd) = refl
 decoded (Go Over) = refl
 
-same : (a b : Next) → T (eqb (code a) (code b)) → a ≡ b
-same a b t = sym (decoded a) ∙ ap decode (eqb→eq (code a) (code b) t) ∙ decoded b
-
-unfoldable pub table : List (List Next)
+unfoldable pub table : List (List ℕ)
 table =
-    (Refused ∷ Go Elements ∷ Refused ∷ Refused ∷ Refused ∷ Refused ∷ Refused ∷ []) ∷
-    (Refused ∷ Refused ∷ Go Elements ∷ Refused ∷ Refused ∷ Refused ∷ Refused ∷ []) ∷
-    (Refused ∷ Refused ∷ Refused ∷ Go Links ∷ Refused ∷ Refused ∷ Refused ∷ []) ∷
-    (Refused ∷ Refused ∷ Refused ∷ Refused ∷ Go PlanHead ∷ Refused ∷ Refused ∷ []) ∷
-    (Refused ∷ Refused ∷ Refused ∷ Refused ∷ Refused ∷ Go Steps ∷ Refused ∷ []) ∷
-    (Refused ∷ Refused ∷ Refused ∷ Refused ∷ Refused ∷ Refused ∷ Go Steps ∷ []) ∷
-    (Refused ∷ Refused ∷ Refused ∷ Refused ∷ Go Over ∷ Refused ∷ Refused ∷ []) ∷
-    (Refused ∷ Refused ∷ Refused ∷ Refused ∷ Refused ∷ Refused ∷ Refused ∷ []) ∷ []
+    (8 ∷ 1 ∷ 8 ∷ 8 ∷ 8 ∷ 8 ∷ 8 ∷ []) ∷
+    (8 ∷ 8 ∷ 1 ∷ 8 ∷ 8 ∷ 8 ∷ 8 ∷ []) ∷
+    (8 ∷ 8 ∷ 8 ∷ 2 ∷ 8 ∷ 8 ∷ 8 ∷ []) ∷
+    (8 ∷ 8 ∷ 8 ∷ 8 ∷ 4 ∷ 8 ∷ 8 ∷ []) ∷
+    (8 ∷ 8 ∷ 8 ∷ 8 ∷ 8 ∷ 5 ∷ 8 ∷ []) ∷
+    (8 ∷ 8 ∷ 8 ∷ 8 ∷ 8 ∷ 8 ∷ 5 ∷ []) ∷
+    (8 ∷ 8 ∷ 8 ∷ 8 ∷ 7 ∷ 8 ∷ 8 ∷ []) ∷
+    (8 ∷ 8 ∷ 8 ∷ 8 ∷ 8 ∷ 8 ∷ 8 ∷ []) ∷ []
 
-right : Next → Stage → ℕ → Bool
-right d s k = eqb (code (getD (getD table (stageNumber s) []) k d)) (code (nextStage s k))
+right : ℕ → Stage → ℕ → Bool
+right d s k = eqb (getD (getD table (stageNumber s) []) k d) (code (nextStage s k))
 
-row : (d : Next) (s : Stage) → T (all (right d s) 7)
+row : (d : ℕ) (s : Stage) → T (all (right d s) 7)
 unfolding right table code nextStage
 row d Head = tt
 row d Elements = tt
@@ -107,9 +93,10 @@ row d PlanEnd = tt
 row d Over = tt
 
 -- each entry of the table, whatever stands past its end
-pub entry : (d : Next) (s : Stage) (n k : ℕ) → n ≡ stageNumber s → k < 7 → getD (getD table n []) k d ≡ nextStage s k
+pub entry : (d : ℕ) (s : Stage) (n k : ℕ) → n ≡ stageNumber s → k < 7 → namedBy (getD (getD table n []) k d) ≡ nextStage s k
 unfolding right
-entry d s n k e h = rw e (same _ _ (at (right d s) 7 (row d s) k h))
+entry d s n k e h =
+    rw e (ap namedBy (eqb→eq (getD (getD table (stageNumber s) []) k d) (code (nextStage s k)) (at (right d s) 7 (row d s) k h)) ∙ decoded (nextStage s k))
 
 -- a kind past the table
 pub past : (s : Stage) (k : ℕ) → 7 ≤ k → Refused ≡ nextStage s k

@@ -9,6 +9,11 @@ use Rattle.file_stages.specs.declared.Stage.the-variants.{Head, Elements
 use Rattle.file_stages.specs.declared.Next.{Next}
 use Rattle.file_stages.specs.declared.Next.the-variants.{Go, Refused}
 
+-- the first of two where the answer is true, the second where it is false
+abbrev pub pick : Bool → Next → Next → Next
+pick true a b = a
+pick false a b = b
+
 -- the stages in their order: the rows of the table
 abbrev pub stageNumber : Stage → ℕ
 stageNumber Head = 0
@@ -19,6 +24,12 @@ stageNumber PlanHead = 4
 stageNumber Steps = 5
 stageNumber PlanEnd = 6
 stageNumber Over = 7
+
+-- what an entry of the table names: the stage of that number, or refusal 2
+unfoldable pub namedBy : ℕ → Next
+namedBy n =
+    pick (eqb n 0) (Go Head) (pick (eqb n 1) (Go Elements) (pick (eqb n 2) (Go Links) (pick (eqb n 3) (Go End)
+    (pick (eqb n 4) (Go PlanHead) (pick (eqb n 5) (Go Steps) (pick (eqb n 6) (Go PlanEnd) (pick (eqb n 7) (Go Over) Refused)))))))
 
 -- a kind that may come leads to a stage; any other is refusal 2
 abbrev pub goesTo : Bool → Stage → Next

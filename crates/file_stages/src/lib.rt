@@ -1,6 +1,6 @@
 // Where reading stands in a file, and the table that says which record kinds may come there.
 ghost use mathlib.Core.Path.{_≡_};
-ghost use Rattle.file_stages.specs.Stages.{nextStage, afterLast, stageNumber};
+ghost use Rattle.file_stages.specs.Stages.{namedBy, nextStage, afterLast, stageNumber};
 
 pub enum Stage {
     Head,
@@ -20,20 +20,21 @@ pub enum Next {
 
 const KINDS: usize = 7;
 
-const NO: Next = Next::Refused;
+// The table's entries: the stages by their numbers, and 8 for refusal 2.
+const ELEMENTS: u8 = 1;
 
-const ELEMENTS: Next = Next::Go(Stage::Elements);
+const LINKS: u8 = 2;
 
-const LINKS: Next = Next::Go(Stage::Links);
+const PLAN_HEAD: u8 = 4;
 
-const PLAN_HEAD: Next = Next::Go(Stage::PlanHead);
+const STEPS: u8 = 5;
 
-const STEPS: Next = Next::Go(Stage::Steps);
+const OVER: u8 = 7;
 
-const OVER: Next = Next::Go(Stage::Over);
+const NO: u8 = 8;
 
 // Rows: the stages in their order. Columns: kinds 0 to 6.
-const NEXT: [[Next; 7]; 8] = [
+const NEXT: [[u8; 7]; 8] = [
     [NO, ELEMENTS, NO, NO, NO, NO, NO],
     [NO, NO, ELEMENTS, NO, NO, NO, NO],
     [NO, NO, NO, LINKS, NO, NO, NO],
@@ -59,6 +60,23 @@ fn row_of(stage: Stage) -> usize
     }
 }
 
+// What an entry of the table names.
+fn named(entry: u8) -> Next
+    ensures { λ r. ⌜ r ≡ namedBy entry ⌝ }
+{
+    match entry {
+        0 => Next::Go(Stage::Head),
+        1 => Next::Go(Stage::Elements),
+        2 => Next::Go(Stage::Links),
+        3 => Next::Go(Stage::End),
+        4 => Next::Go(Stage::PlanHead),
+        5 => Next::Go(Stage::Steps),
+        6 => Next::Go(Stage::PlanEnd),
+        7 => Next::Go(Stage::Over),
+        _ => Next::Refused,
+    }
+}
+
 // What the table says of a kind at a stage; a kind past the table is refused too.
 pub fn next_stage(stage: Stage, kind: u16) -> Next
     ensures { λ r. ⌜ r ≡ nextStage stage kind ⌝ }
@@ -68,8 +86,8 @@ pub fn next_stage(stage: Stage, kind: u16) -> Next
         return Next::Refused;
     }
     let row = row_of(stage);
-    let next = NEXT[row][column];
-    next
+    let entry = NEXT[row][column];
+    named(entry)
 }
 
 // The stage that follows once the last element, link or step is read.

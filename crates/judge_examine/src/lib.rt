@@ -71,6 +71,10 @@ pub fn examine(start: Start, plan: Plan) -> Examined
     requires { ⌜ WellFormedPlan (start .net .links) plan ⌝ }
     ensures { λ r. ⌜ r ≡ stepsExamined (netOf (start .net)) (isIn (start .operable)) (netOf (start .net) .startClosed) 1 (stepsOf plan) ⌝ }
 {
+    let count = plan.steps as usize;
+    if count == 0 {
+        return Examined::AllGood;
+    }
     let net = start.net;
     let load = net.load;
     let capacity = net.capacity;
@@ -80,7 +84,6 @@ pub fn examine(start: Start, plan: Plan) -> Examined
     let rating = packed_rating(&load, &capacity);
     let mut sign = signs_of(&flags);
     let mut closed = start.closed;
-    let count = plan.steps as usize;
     let mut i: usize = 0;
     while i < count {
         let l = plan.link[i] as usize;

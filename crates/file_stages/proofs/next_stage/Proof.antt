@@ -1,34 +1,51 @@
 -- `file_stages::next_stage` gives what the definition says of every stage and kind: the table's rule, and refusal past it.
 -- Assumes nothing.
+use mathlib.Core.Path.{_∙_}
 use native.Mathlib.Omega.{arith}
-use borrow.Author.Needs.{needs}
 use Rattle.file_stages.proofs.Table.{row-small, entry, past, table}
+use borrow.Author.Needs.{needs}
 use Rattle.file_stages.proofs.next_stage.Statement.{statement}
 use Rattle.file_stages.proofs.next_stage.Tie as tie
 
 returns : tie.Need-returns
-returns c = past (c .before .args .stage) (c .before .args .kind) (omega arith)
+returns c =
+    let args· = c .before .args in
+    past (args· .stage) (args· .kind) (omega (arith, (c .if1)))
 
 row-of-requires : tie.Need-row-of-requires
-row-of-requires c κs = tt
+row-of-requires c κs =
+    search needs
 
-mul-next : tie.Need-mul-next
-mul-next c = omega (arith, row-small (c .before .before .args .stage))
+mul-entry : tie.Need-mul-entry
+mul-entry c =
+    omega (arith, row-small (c .before .before .args .stage))
 
-mul-next-2 : tie.Need-mul-next-2
-mul-next-2 c = omega arith
+index-1-entry : tie.Need-index-1-entry
+index-1-entry c =
+    omega (arith, row-small (c .before .before .args .stage))
 
-index-1-next : tie.Need-index-1-next
-index-1-next c = omega (arith, row-small (c .before .before .args .stage))
+index-2-entry : tie.Need-index-2-entry
+index-2-entry c =
+    search needs
 
-index-2-next : tie.Need-index-2-next
-index-2-next c = search needs
+named-requires : tie.Need-named-requires
+named-requires c κs =
+    search needs
 
 returns-2 : tie.Need-returns-2
 unfolding table
 returns-2 c =
-    let a = c .before .before .before .args in
-    entry _ (a .stage) _ (a .kind) (c .before .row-of .ensures) (omega arith)
+    let args· = c .before .before .before .before .args in
+    c .named .ensures ∙ entry _ (args· .stage) _ (args· .kind) (c .before .before .row-of .ensures) (omega (arith, (c .before .before .before .if1)))
 
 pub next-stage-spec : {M : Type 1} → statement M
-next-stage-spec = tie.close (tie.spec returns row-of-requires mul-next mul-next-2 index-1-next index-2-next returns-2)
+next-stage-spec =
+    tie.close
+    (tie.spec
+    returns
+    row-of-requires
+    mul-entry
+    index-1-entry
+    index-2-entry
+    named-requires
+    returns-2)
