@@ -16,7 +16,7 @@ use Rattle.file_network.proofs.NetworkAlike.{networkLooks, network-looked, netw
 use Rattle.file_plan.specs.Inputs.{planInput}
 use Rattle.file_plan.proofs.Sizes.{planLongest}
 use Rattle.file_plan.proofs.Alike.{planInputLooks, plan-input-from, plan-input-look-most, plan-input-alike}
-use Rattle.file_both.specs.Inputs.{paired, planBehind, bothInput}
+use Rattle.file_both.specs.Inputs.{paired, planBehind, planBehindBy, bothInput, bothInputBy}
 
 -- how far the judge's input looks
 unfoldable pub bothLook : List ℕ → ℕ
@@ -33,14 +33,14 @@ module _ (s t : List ℕ) (upto : ℕ) where
   -- a plan file behind a network
   pub behind-alike : (n : Network) (at at′ : ℕ) → SameFrom s t at at′ upto → planInputLooks s (n .links) at ≤ upto
       → Moved _≡_ at at′ (planBehind s at n) (planBehind t at′ n)
-  unfolding planBehind
+  unfolding planBehindBy
   behind-alike n at at′ same far =
       moved-then at at′ (planInput s (n .links) at) (planInput t (n .links) at′) (paired n) (paired n)
       (plan-input-alike s t upto (n .links) at at′ same far)
       (λ i st p q e r. reached-here (at + i) (at′ + i) st (n, p) (n, q) (ap (λ (x : Plan). (n, x)) r))
 
   pub both-alike : SameFrom s t 0 0 upto → bothLook s ≤ upto → bothInput s ≡ bothInput t
-  unfolding bothInput bothLook
+  unfolding bothInputBy bothLook
   both-alike same far =
       moved-equal
       (then-alike 0 0 upto (networkLooks s) (λ at st n. planInputLooks s (n .links) at) (networkFile s) (networkFile t)

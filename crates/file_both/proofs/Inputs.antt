@@ -16,12 +16,12 @@ use Rattle.file_plan.specs.declared.PlanRead.{PlanRead}
 use Rattle.file_plan.specs.PlanFiles.{emptyPlan}
 use Rattle.file_plan.specs.Inputs.{planRead, planInput}
 use Rattle.file_both.specs.declared.BothRead.{BothRead}
-use Rattle.file_both.specs.Inputs.{paired, planBehind, bothRead}
+use Rattle.file_both.specs.Inputs.{paired, planBehind, planBehindBy, bothRead}
 
 -- a plan behind a network
 module _ (s : List ℕ) (at : ℕ) (n : Network) (read : PlanRead) (hr : read ≡ planRead (planInput s (n .links) at)) where
   pub behind-refused : (r : Refusal) → read .answer ≡ Refused r → refused r ≡ planBehind s at n
-  unfolding planRead planBehind
+  unfolding planRead planBehindBy
   behind-refused r h = go (planInput s (n .links) at) (sym (ap (λ (x : PlanRead). x .answer) hr) ∙ h)
     where
       go : (o : Reading Plan) → answerOf o ≡ Refused r → refused r ≡ readOn o (paired n)
@@ -33,7 +33,7 @@ module _ (s : List ℕ) (at : ℕ) (n : Network) (read : PlanRead) (hr : read �
       answer ≡ read .answer →
       answer ≡ Accepted →
       _≡_ {A = BothRead} (record { answer = answer; net = n; plan = read .plan }) (bothRead (planBehind s at n))
-  unfolding planRead planBehind bothRead
+  unfolding planRead planBehindBy bothRead
   behind-accepted answer hs h =
       go (planInput s (n .links) at) (sym (ap (λ (x : PlanRead). x .answer) hr) ∙ sym hs ∙ h) (ap (λ (x : PlanRead). x .plan) hr)
     where

@@ -1,3 +1,4 @@
 pub mod Inputs
 pub mod Sizes
 pub mod Alike
+pub mod Known

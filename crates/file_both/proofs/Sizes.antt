@@ -12,12 +12,12 @@ use Rattle.file_network.specs.Runs.{reached}
 use Rattle.file_network.specs.NetworkFiles.{networkFile}
 use Rattle.file_plan.specs.PlanFiles.{planFile}
 use Rattle.file_plan.specs.Inputs.{planInput}
-use Rattle.file_both.specs.Inputs.{paired, planBehind, bothInput}
+use Rattle.file_both.specs.Inputs.{paired, planBehind, planBehindBy, bothInput, bothInputBy}
 use Rattle.file_network.proofs.Parts.{then-reached}
 use Rattle.file_network.proofs.Sizes.{networkLongest, network-size}
 use Rattle.file_plan.proofs.Sizes.{planLongest, plan-size, plan-input-size}
 
--- At most 3,854 bytes.
+-- At most 4,110 bytes.
 pub record BothSize (s : List ℕ) (at : ℕ) (stage : Stage) (n : Network) (p : Plan) : Type 0 where
   pub middle : ℕ
   pub due : Stage
@@ -28,7 +28,7 @@ pub record BothSize (s : List ℕ) (at : ℕ) (stage : Stage) (n : Network) (p :
 
 pub both-size :
     (s : List ℕ) (at : ℕ) (stage : Stage) (n : Network) (p : Plan) → bothInput s ≡ reached at stage (n, p) → BothSize s at stage n p
-unfolding bothInput planBehind
+unfolding bothInputBy planBehindBy
 both-size s at stage n p h =
     let b = then-reached (λ at stage n. planBehind s at n) (networkFile s) at stage (n, p) h in
     let c = then-reached (paired (b .value)) (planInput s (b .value .links) (b .at)) at stage (n, p) (b .then) in
@@ -52,6 +52,6 @@ both-size s at stage n p h =
       at-most = omega (arith, end .1, size .at-most, length-is .at-most);
     }
 
--- an accepted network file with its plan file has at most 3,854 bytes
-pub both-most : (s : List ℕ) (at : ℕ) (stage : Stage) (n : Network) (p : Plan) → bothInput s ≡ reached at stage (n, p) → length s ≤ 3854
+-- an accepted network file with its plan file has at most 4,110 bytes
+pub both-most : (s : List ℕ) (at : ℕ) (stage : Stage) (n : Network) (p : Plan) → bothInput s ≡ reached at stage (n, p) → length s ≤ 4110
 both-most s at stage n p h = both-size s at stage n p h .at-most

@@ -1,4 +1,4 @@
--- Document 01, "Files" and refusals 5 to 12: the numbers in a record, how long its kind's records are, and what its fields must keep.
+-- Document 01, "Files" and refusals 5 to 12, and document 02's kind of element: the numbers in a record, how long its kind's records are, and what its fields must keep.
 -- Assumes nothing.
 use mathlib.Core.Bool.{Bool, true, false, not}
 use mathlib.Core.List.{List, [], _∷_, _++_}
@@ -14,11 +14,15 @@ use Rattle.file_fields.specs.declared.Seen.{Seen}
 unfoldable pub word : List ℕ → ℕ → ℕ
 word s at = getD s at 0 + 256 * getD s (at + 1) 0
 
--- the length of each kind's records: head 8, element 10, link 12, end 4, plan head 6, step 8; 0 for a number that is no kind
+-- document 02: "four bytes", low byte first
+unfoldable pub wideWord : List ℕ → ℕ → ℕ
+wideWord s at = word s at + 65536 * word s (at + 2)
+
+-- the length of each kind's records: head 8, element 10, link 12, end 4, plan head 6, step 8, wide element 14; 0 for a number that is no kind
 unfoldable pub lengthOf : ℕ → ℕ
 lengthOf k =
     pick (eqb k 1) 8
-    (pick (eqb k 2) 10 (pick (eqb k 3) 12 (pick (eqb k 4) 4 (pick (eqb k 5) 6 (pick (eqb k 6) 8 0)))))
+    (pick (eqb k 2) 10 (pick (eqb k 3) 12 (pick (eqb k 4) 4 (pick (eqb k 5) 6 (pick (eqb k 6) 8 (pick (eqb k 7) 14 0))))))
 
 abbrev pub either : Bool → Bool → Bool
 either true b = true
@@ -29,9 +33,16 @@ unfoldable pub headRules : List ℕ → ℕ → List Check
 headRules s at =
     check HeadOutOfRange (either (eqb (word s (at + 4)) 0) (either (ltb 64 (word s (at + 4))) (ltb 96 (word s (at + 6))))) ∷ []
 
--- Rule 6: "An element's flags exceed 3."
-unfoldable pub elementRules : List ℕ → ℕ → List Check
-elementRules s at = check UnknownFlags (ltb 3 (word s (at + 8))) ∷ []
+-- an element is of kind 2, or of document 02's kind 7; where its flags stand
+abbrev pub elementKind : ℕ → Bool
+elementKind kind = either (eqb kind 2) (eqb kind 7)
+
+abbrev pub flagsAt : ℕ → ℕ
+flagsAt kind = pick (eqb kind 7) 12 8
+
+-- Rule 6, of the flags at an offset: "An element's flags exceed 3."
+unfoldable pub flagsRules : List ℕ → ℕ → List Check
+flagsRules s at = check UnknownFlags (ltb 3 (word s at)) ∷ []
 
 -- Rules 7 to 9, in a network of so many elements: "A link has an end of E or more, or two equal ends." "A link's form exceeds 2."
 -- "A link's cost doesn't suit its form."
@@ -60,7 +71,7 @@ only false cs = []
 unfoldable pub fieldRules : List ℕ → ℕ → ℕ → Seen → List Check
 fieldRules s at kind seen =
     only (eqb kind 1) (headRules s at) ++
-    only (eqb kind 2) (elementRules s at) ++
+    only (elementKind kind) (flagsRules s (at + flagsAt kind)) ++
     only (eqb kind 3) (linkRules s at (seen .elements)) ++
     only (eqb kind 5) (planHeadRules s at) ++
     only (eqb kind 6) (stepRules s at (seen .links))

@@ -1,4 +1,4 @@
-// The fields of a record: the numbers in it, and document 01's rules 5 to 12 on those of each kind.
+// The fields of a record: the numbers in it, and rules 5 to 12 on those of each kind.
 use network::Network;
 use network::refusal::Rule;
 use network::refusal::Verdict;
@@ -8,7 +8,7 @@ ghost use lib.Dec.{eqb, ltb, leb};
 ghost use lib.ListN.{length};
 ghost use Rattle.network.specs.Refusals.{firstBroken};
 ghost use Rattle.network.specs.Accepted.{suits};
-ghost use Rattle.file_fields.specs.Fields.{word, lengthOf, either, headRules, elementRules, linkRules, planHeadRules, stepRules, fieldRules};
+ghost use Rattle.file_fields.specs.Fields.{word, wideWord, lengthOf, either, headRules, flagsRules, linkRules, planHeadRules, stepRules, fieldRules};
 
 // What a record's rules may ask of what was read before it: how many elements and links the network has so far.
 pub struct Seen {
@@ -32,6 +32,16 @@ pub fn word_at(s: &[u8], at: usize) -> u16
     let low = s[at] as u16;
     let high = s[at + 1] as u16;
     low + 256 * high
+}
+
+// The number of four bytes at an offset, low byte first.
+pub fn wide_word_at(s: &[u8], at: usize) -> u32
+    requires { ⌜ at + 3 < length (now s) ⌝ }
+    ensures { λ r. ⌜ r ≡ wideWord (now (s .entry)) at ⌝ }
+{
+    let low = word_at(s, at) as u32;
+    let high = word_at(s, at + 2) as u32;
+    low + 65536 * high
 }
 
 // E is 1 to 64, K is 0 to 96.
@@ -60,12 +70,12 @@ fn head_rules(s: &[u8], at: usize) -> Verdict
     Verdict::Kept
 }
 
-// Rule 6.
-fn element_rules(s: &[u8], at: usize) -> Verdict
-    requires { ⌜ at + 10 ≤ length (now s) ⌝ }
-    ensures { λ r. ⌜ r ≡ firstBroken (elementRules (now (s .entry)) at) ⌝ }
+// Rule 6, of the flags at an offset.
+fn flags_rules(s: &[u8], at: usize) -> Verdict
+    requires { ⌜ at + 2 ≤ length (now s) ⌝ }
+    ensures { λ r. ⌜ r ≡ firstBroken (flagsRules (now (s .entry)) at) ⌝ }
 {
-    if 3 < word_at(s, at + 8) {
+    if 3 < word_at(s, at) {
         return Verdict::Broken(Rule::UnknownFlags);
     }
     Verdict::Kept
@@ -151,7 +161,7 @@ pub fn field_rules(s: &[u8], at: usize, kind: u16, seen: Seen) -> Verdict
             return head_rules(s, at);
         }
         2 => {
-            return element_rules(s, at);
+            return flags_rules(s, at + 8);
         }
         3 => {
             return link_rules(s, at, seen.elements);
@@ -161,6 +171,9 @@ pub fn field_rules(s: &[u8], at: usize, kind: u16, seen: Seen) -> Verdict
         }
         6 => {
             return step_rules(s, at, seen.links);
+        }
+        7 => {
+            return flags_rules(s, at + 12);
         }
         _ => {
             return Verdict::Kept;

@@ -3,6 +3,7 @@
 use mathlib.Core.Path.{_≡_, sym, subst, _∙_}
 use mathlib.Core.Bool.{true}
 use mathlib.Core.List.{List}
+use mathlib.Core.Logic.{_⊎_, inl, inr}
 use Prim.Native.Nat.{ℕ, _+_, _^_, _<_, _≤_}
 use native.Mathlib.Omega.{arith}
 use lib.ListN.{getD}
@@ -12,13 +13,14 @@ use Rattle.network.specs.declared.Element.{Element}
 use Rattle.network.specs.declared.Link.{Link}
 use Rattle.network.specs.declared.Network.{Network}
 use Rattle.file_fields.specs.declared.Seen.{Seen}
-use Rattle.file_fields.specs.Fields.{word}
+use Rattle.file_fields.specs.Fields.{word, wideWord}
 use Rattle.file_fields.specs.Views.{networkSeen}
 use Rattle.network.specs.Accepted.{suits}
 use Rattle.file_network.specs.Runs.{reached}
-use Rattle.file_network.specs.NetworkFiles.{elementOf, linkOf, networkFile}
+use Rattle.file_network.specs.NetworkFiles.{narrowElement, wideElement, elementOf, linkOf, networkFile}
 use Rattle.network.specs.Accepted.{WellFormed}
-use Rattle.file_records.proofs.Due.{Whole, kind-there, as-kind, element-kept, link-kept}
+use Rattle.file_records.proofs.Due.{Whole, kind-there, as-kind, element-kept, wide-kept, link-kept}
+use Rattle.file_network.proofs.Elements.{element-narrow, element-wide}
 use Rattle.file_network.proofs.Sizes.{network-size}
 use Rattle.file_network.proofs.Contents.{network-holds}
 
@@ -26,6 +28,11 @@ use Rattle.file_network.proofs.Contents.{network-holds}
 pub word-bound : (s : List ℕ) → ((i : ℕ) → getD s i 0 < 256) → (at : ℕ) → word s at < 65536
 unfolding word
 word-bound s bytes at = omega (arith, bytes at, bytes (at + 1))
+
+-- document 02: "four bytes each"
+pub wide-word-bound : (s : List ℕ) → ((i : ℕ) → getD s i 0 < 256) → (at : ℕ) → wideWord s at < 2 ^ 32
+unfolding wideWord
+wide-word-bound s bytes at = omega (arith, word-bound s bytes at, word-bound s bytes (at + 2))
 
 -- What the rules promise of an element and of a link, of whichever kind its record is.
 
@@ -44,13 +51,28 @@ pub record LinkIn (elements : ℕ) (l : Link) : Type 0 where
 
 module _ {s : List ℕ} {seen : Seen} {at kind long : ℕ} {next : Stage} (bytes : (i : ℕ) → getD s i 0 < 256) where
   pub element-in : Whole s seen at Elements kind long next → ElementIn (elementOf s at)
-  unfolding elementOf
-  element-in w =
-      record {
-        load-in = omega (arith, word-bound s bytes (at + 4));
-        capacity-in = omega (arith, word-bound s bytes (at + 6));
-        flags-in = element-kept (as-kind (kind-there w) w);
-      }
+  unfolding narrowElement wideElement
+  element-in w = by-kind (kind-there w)
+    where
+      narrow-in : word s (at + 8) ≤ 3 → ElementIn (narrowElement s at)
+      narrow-in flags =
+          record {
+            load-in = omega (arith, word-bound s bytes (at + 4));
+            capacity-in = omega (arith, word-bound s bytes (at + 6));
+            flags-in = flags;
+          }
+
+      wide-in : word s (at + 12) ≤ 3 → ElementIn (wideElement s at)
+      wide-in flags =
+          record {
+            load-in = wide-word-bound s bytes (at + 4);
+            capacity-in = wide-word-bound s bytes (at + 8);
+            flags-in = flags;
+          }
+
+      by-kind : (kind ≡ 2) ⊎ (kind ≡ 7) → ElementIn (elementOf s at)
+      by-kind (inl e) = rw (element-narrow s at (sym (w .framed .kind-is) ∙ e)) (narrow-in (element-kept (as-kind e w)))
+      by-kind (inr e) = rw (element-wide s at (sym (w .framed .kind-is) ∙ e)) (wide-in (wide-kept (as-kind e w)))
 
   pub link-in : Whole s seen at Links kind long next → LinkIn (seen .elements) (linkOf s at)
   unfolding linkOf

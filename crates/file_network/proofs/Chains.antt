@@ -19,7 +19,7 @@ use Rattle.file_fields.specs.Views.{nothingSeen, networkSeen}
 use Rattle.file_records.specs.Records.{dueAt}
 use Rattle.network.specs.Networks.{emptyNetwork}
 use Rattle.file_network.specs.Runs.{Reading, refused, reached, readOn, records, always, asIs}
-use Rattle.file_network.specs.NetworkFiles.{withElement, withLink, elementsOn, linksOn, endOn}
+use Rattle.file_network.specs.NetworkFiles.{withElement, withLink, elementsOn, elementsOnBy, linksOn, linksOnBy, endOn}
 use Rattle.file_network.specs.Inputs.{networkPart}
 use Rattle.file_network.proofs.Runs.{records-none, records-refused, records-suc, run-same, run-ends}
 use Rattle.file_network.proofs.Parts.{elementsRun}
@@ -46,12 +46,12 @@ module _ (s : List ℕ) (at : ℕ) (stage : Stage) (n : Network) (part : Network
   thenEnd after next net = endOn s after (afterLast next) net
 
   pub links-refused : (r : Refusal) → part ≡ networkPart linksHere → part .reached ≡ Refused r → part ≡ networkPart (linksOn s at stage n)
-  unfolding linksOn
+  unfolding linksOnBy
   links-refused r hp h = let q = network-refused linksHere thenEnd part r hp h in q .0 ∙ ap networkPart (q .1)
 
   pub links-reached : (after : ℕ) (next : Stage) → part ≡ networkPart linksHere → part .reached ≡ At after next → endOn s after (afterLast next)
       (part .net) ≡ linksOn s at stage n
-  unfolding linksOn
+  unfolding linksOnBy
   links-reached after next hp h = network-reached linksHere thenEnd part after next hp h .1
 
 -- the elements, then the links
@@ -61,12 +61,12 @@ module _ (s : List ℕ) (at : ℕ) (stage : Stage) (part : NetworkPart) where
 
   pub elements-refused : (r : Refusal) → part ≡ networkPart (elementsRun s at stage emptyNetwork) → part .reached ≡ Refused r → part ≡ networkPart
       (elementsOn s at stage emptyNetwork)
-  unfolding elementsOn
+  unfolding elementsOnBy
   elements-refused r hp h = let q = network-refused (elementsRun s at stage emptyNetwork) thenLinks part r hp h in q .0 ∙ ap networkPart (q .1)
 
   module _ (after : ℕ) (next : Stage) (hp : part ≡ networkPart (elementsRun s at stage emptyNetwork)) (h : part .reached ≡ At after next) where
     pub elements-reached : linksOn s after (afterLast next) (part .net) ≡ elementsOn s at stage emptyNetwork
-    unfolding elementsOn
+    unfolding elementsOnBy
     elements-reached = network-reached (elementsRun s at stage emptyNetwork) thenLinks part after next hp h .1
 
     pub elements-leave : stage ≡ Elements → (part .net .links ≡ 0) × (afterLast next ≡ Links)

@@ -1,4 +1,5 @@
 pub mod Runs
+pub mod Elements
 pub mod Outcomes
 pub mod Taken
 pub mod Parts
@@ -10,3 +11,4 @@ pub mod Accepted
 pub mod Looking
 pub mod Alike
 pub mod NetworkAlike
+pub mod Known

@@ -2,6 +2,7 @@
 -- Assumes nothing.
 use mathlib.Core.Path.{_≡_, refl, sym, ap, ap₂, subst, _∙_}
 use mathlib.Core.List.{List, _++_}
+use mathlib.Core.Logic.{_⊎_, inl, inr}
 use Prim.Native.Nat.{ℕ, _+_, _*_, _<_, _≤_}
 use native.Mathlib.Omega.{arith}
 use lib.ListN.{length, take}
@@ -10,14 +11,16 @@ use Rattle.network.specs.Networks.{emptyNetwork, elementAdded, linkAdded}
 use Rattle.file_stages.specs.declared.Stage.{Stage}
 use Rattle.file_stages.specs.declared.Stage.the-variants.{Head, Elements, Links, End}
 use Rattle.file_stages.specs.Stages.{afterLast}
-use Rattle.file_fields.specs.Fields.{word}
+use Rattle.file_fields.specs.Fields.{word, lengthOf}
 use Rattle.file_fields.specs.Views.{nothingSeen, networkSeen}
-use Rattle.file_records.proofs.Due.{Framed, Whole, nextAt, longest}
-use Rattle.file_records.proofs.SameBytes.{SameFrom, same-on, take-same, append-same}
+use Rattle.file_records.proofs.Due.{Framed, Whole, nextAt, longest, goes-one-way}
+use Rattle.file_records.specs.Records.{kindField}
+use Rattle.file_records.proofs.SameBytes.{SameFrom, wide-words, same-on, take-same, append-same}
 use Rattle.file_network.specs.Runs.{Reading, reached, readOn, records, always, asIs}
-use Rattle.file_network.specs.NetworkFiles.{elementOf, linkOf, withElement, withLink, endOn, linksOn, elementsOn, networkFile}
-use Rattle.file_network.specs.Inputs.{closed, networkInput}
+use Rattle.file_network.specs.NetworkFiles.{narrowElement, wideElement, elementOf, linkOf, withElement, withLink, endOn, endOnBy, linksOn, linksOnBy, elementsOn, elementsOnBy, networkFile, networkFileBy}
+use Rattle.file_network.specs.Inputs.{closed, networkInput, networkInputBy}
 use Rattle.file_network.proofs.Runs.{run-ends}
+use Rattle.file_network.proofs.Elements.{element-narrow, element-wide}
 use Rattle.file_network.proofs.Parts.{headRun}
 use Rattle.file_network.proofs.Sizes.{head-read, networkLongest, network-size}
 use Rattle.file_network.proofs.Looking.{looks, lookThen, lookBehind, Looked, then-looked, look-most, run-looked, looks-one, looks-most}
@@ -50,7 +53,7 @@ networkInputLooks s = lookThen (networkFile s) (networkLooks s) lookBehind
 
 module _ (s : List ℕ) where
   pub links-looked : (at : ℕ) (stage : Stage) (n : Network) → Looked at (linksOn s at stage n) (linksLook s at stage n)
-  unfolding linksOn linksLook endOn
+  unfolding linksOnBy linksLook endOnBy
   links-looked at stage n =
       then-looked at _ _ (records s networkSeen (withLink s) (word s 6) at stage n) (λ p st m. endOn s p (afterLast st) m)
       (run-looked s networkSeen (withLink s) (word s 6) at stage n) (λ p st m. run-looked s (always nothingSeen) asIs 1 p (afterLast st) m)
@@ -62,7 +65,7 @@ module _ (s : List ℕ) where
       (run-looked s (always nothingSeen) (withElement s) count at stage n) (λ p st m. links-looked p (afterLast st) m)
 
   pub file-rest : networkFile s ≡ readOn (headRun s) (restOn s (word s 4))
-  unfolding networkFile elementsOn restOn
+  unfolding networkFileBy elementsOnBy restOn
   file-rest = refl
 
   pub network-looked : Looked 0 (networkFile s) (networkLooks s)
@@ -112,10 +115,26 @@ module _ (s : List ℕ) where
 
 module _ {s t : List ℕ} {at at′ upto kind long : ℕ} {next : Stage} (same : SameFrom s t at at′ upto) (room : at + long ≤ upto) where
   pub element-same : Framed s at Elements kind long next → elementOf s at ≡ elementOf t at′
-  unfolding elementOf
-  element-same f =
-      let least = f .enough in
-      rw (same .words 4 (omega arith), same .words 6 (omega arith), same .words 8 (omega arith))
+  unfolding narrowElement wideElement lengthOf
+  element-same f = by-kind (goes-one-way Elements kind next (f .goes) .0)
+    where
+      there : {k : ℕ} → kind ≡ k → kindField t at′ ≡ k
+      there e = sym (same .words 2 (omega (arith, f .least))) ∙ sym (f .kind-is) ∙ e
+
+      narrow-same : narrowElement s at ≡ narrowElement t at′
+      narrow-same =
+          let least = f .enough in
+          rw (same .words 4 (omega arith), same .words 6 (omega arith), same .words 8 (omega arith))
+
+      wide-same : 14 ≤ long → wideElement s at ≡ wideElement t at′
+      wide-same least =
+          rw (wide-words same 4 (omega arith), wide-words same 8 (omega arith), same .words 12 (omega arith))
+
+      by-kind : (kind ≡ 2) ⊎ (kind ≡ 7) → elementOf s at ≡ elementOf t at′
+      by-kind (inl e) = element-narrow s at (sym (f .kind-is) ∙ e) ∙ narrow-same ∙ sym (element-narrow t at′ (there e))
+      by-kind (inr e) =
+          let long-is : long ≡ 14 = rw e at (f .long-of) in
+          element-wide s at (sym (f .kind-is) ∙ e) ∙ wide-same (omega arith) ∙ sym (element-wide t at′ (there e))
 
   pub link-same : Framed s at Links kind long next → linkOf s at ≡ linkOf t at′
   unfolding linkOf
@@ -147,7 +166,7 @@ module _ (s t : List ℕ) (upto : ℕ) where
   module _ (counts : word s 6 ≡ word t 6) where
     pub links-on-alike : (at at′ : ℕ) (n : Network) → SameFrom s t at at′ upto → linksLook s at Links n ≤ upto
         → Moved _≡_ at at′ (linksOn s at Links n) (linksOn t at′ Links n)
-    unfolding linksOn linksLook endOn
+    unfolding linksOnBy linksLook endOnBy
     links-on-alike at at′ n same =
         let run = run-looked s networkSeen (withLink s) (word s 6) at Links n in
         then-alike at at′ upto (looks s networkSeen (withLink s) (word s 6) at Links n) (λ p st m. looks s (always nothingSeen) asIs 1 p (afterLast st) m)
@@ -195,7 +214,7 @@ module _ (s t : List ℕ) (upto : ℕ) where
   network-alike same far = moved-equal (network-moved same far)
 
   pub network-input-alike : SameFrom s t 0 0 upto → networkInputLooks s ≤ upto → networkInput s ≡ networkInput t
-  unfolding networkInput networkInputLooks
+  unfolding networkInputBy networkInputLooks
   network-input-alike same far =
       moved-equal
       (then-alike 0 0 upto (networkLooks s) lookBehind (networkFile s) (networkFile t) (closed s) (closed t)

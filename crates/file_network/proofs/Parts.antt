@@ -19,7 +19,7 @@ use Rattle.file_fields.specs.Fields.{word}
 use Rattle.file_fields.specs.Views.{nothingSeen, networkSeen}
 use Rattle.network.specs.Networks.{emptyNetwork}
 use Rattle.file_network.specs.Runs.{Reading, refused, reached, readOn, records, always, asIs}
-use Rattle.file_network.specs.NetworkFiles.{withElement, withLink, networkFile, elementsOn, linksOn, endOn}
+use Rattle.file_network.specs.NetworkFiles.{withElement, withLink, networkFile, networkFileBy, elementsOn, elementsOnBy, linksOn, linksOnBy, endOn, endOnBy}
 use Rattle.file_network.specs.Inputs.{closed}
 
 -- Two steps, one after the other.
@@ -110,7 +110,7 @@ module _ (s : List ℕ) where
   withLinks = readOn withElements linksRun
 
   pub network-chain : networkFile s ≡ readOn withLinks endRun
-  unfolding networkFile elementsOn linksOn endOn
+  unfolding networkFileBy elementsOnBy linksOnBy endOnBy
   network-chain = go headRun
     where
       last : (o : Reading Network) → readOn o (λ after next net. endOn s after (afterLast next) net) ≡ readOn o endRun

@@ -11,12 +11,12 @@ use Rattle.file_fields.specs.declared.Seen.{Seen}
 use Rattle.file_records.specs.declared.Found.{Found}
 use Rattle.file_records.specs.declared.Found.the-variants.{Record, Refused}
 use Rattle.file_records.specs.Records.{dueAt}
-use Rattle.file_network.specs.Runs.{refused, reached, onFound, records}
+use Rattle.file_network.specs.Runs.{refused, reached, onFound, records, recordsBy}
 use Rattle.file_records.proofs.Due.{Whole, nextAt, longest, due-kept}
 
 module _ {A : Type 0} (s : List ℕ) (seen : A → Seen) (into : ℕ → A → A) where
   pub records-none : (at : ℕ) (stage : Stage) (a : A) → records s seen into 0 at stage a ≡ reached at stage a
-  unfolding records
+  unfolding recordsBy
   records-none at stage a = refl
 
   pub records-refused :
@@ -24,7 +24,7 @@ module _ {A : Type 0} (s : List ℕ) (seen : A → Seen) (into : ℕ → A → A
       0 < n →
       dueAt s (seen a) at stage ≡ Refused r →
       records s seen into n at stage a ≡ refused r
-  unfolding records
+  unfolding recordsBy
   records-refused zero at stage a r h e = absurd (not-suc-le-zero h)
   records-refused (suc n) at stage a r h e =
       ap (λ (f : Found). onFound f (λ long next. records s seen into n (at + long) next (into at a))) e
@@ -33,7 +33,7 @@ module _ {A : Type 0} (s : List ℕ) (seen : A → Seen) (into : ℕ → A → A
       (n at : ℕ) (stage : Stage) (a : A) (kind long : ℕ) (next : Stage) →
       dueAt s (seen a) at stage ≡ Record kind long next →
       records s seen into (suc n) at stage a ≡ records s seen into n (at + long) next (into at a)
-  unfolding records
+  unfolding recordsBy
   records-suc n at stage a kind long next e =
       ap (λ (f : Found). onFound f (λ long next. records s seen into n (at + long) next (into at a))) e
 

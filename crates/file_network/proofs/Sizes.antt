@@ -13,7 +13,7 @@ use Rattle.file_fields.specs.Views.{nothingSeen, networkSeen}
 use Rattle.network.specs.Networks.{emptyNetwork}
 use Rattle.file_network.specs.Runs.{reached, records, always, asIs}
 use Rattle.file_network.specs.NetworkFiles.{withElement, withLink, networkFile}
-use Rattle.file_network.specs.Inputs.{networkInput}
+use Rattle.file_network.specs.Inputs.{networkInput, networkInputBy}
 use Rattle.file_records.proofs.Due.{longest, head-kept}
 use Rattle.file_network.proofs.Runs.{run-same, run-count, run-ends, one-record}
 use Rattle.file_network.proofs.Parts.{then-reached, closed-reached, headRun, elementsRun, linksRun, endRun, withElements, withLinks, network-chain}
@@ -103,7 +103,7 @@ links-read s at stage n h =
       run = run;
     }
 
--- A network file is at most 12 bytes, 10 for each element and 12 for each link: 1,804 bytes.
+-- A network file is at most 12 bytes, 14 for each element and 12 for each link: 2,060 bytes.
 
 abbrev pub networkLongest : ℕ
 networkLongest = longest Head + longest Elements * 64 + longest Links * 96 + longest End
@@ -139,12 +139,12 @@ pub network-input-size :
     (s : List ℕ) (at : ℕ) (stage : Stage) (n : Network) →
     networkInput s ≡ reached at stage n →
     (networkFile s ≡ reached at stage n) × (length s ≡ at) × (length s ≤ networkLongest)
-unfolding networkInput
+unfolding networkInputBy
 network-input-size s at stage n h =
     let c = closed-reached s (networkFile s) at stage n h in
     let size = network-size s at stage n (c .0) in
     (c .0, omega (arith, c .1, size .inside), omega (arith, c .1, size .at-most))
 
--- an accepted network file has at most 1,804 bytes
-pub network-most : (s : List ℕ) (at : ℕ) (stage : Stage) (n : Network) → networkInput s ≡ reached at stage n → length s ≤ 1804
+-- an accepted network file has at most 2,060 bytes
+pub network-most : (s : List ℕ) (at : ℕ) (stage : Stage) (n : Network) → networkInput s ≡ reached at stage n → length s ≤ 2060
 network-most s at stage n h = network-input-size s at stage n h .2

@@ -1,7 +1,7 @@
--- Document 01, "Files": how many bytes of an input decide its reply. Laws and contracts say `decides` where document 01 says the number.
+-- Document 02, item 1: how many bytes of an input decide its reply. Laws and contracts say `decides` where the document says the number.
 -- Assumes nothing.
 use Prim.Native.Nat.{ℕ}
 
--- "Accepted input has at most 3,854 bytes, so the first 4,096 bytes decide."
+-- "Input may now be longer: the first 8,192 bytes decide, here and in all later items but 14."
 abbrev pub decides : ℕ
-decides = 4096
+decides = 8192

@@ -1,12 +1,14 @@
 -- Document 01: the planner's input, rule 13, and what a refusal hands out.
 -- Internal: what computes; `Demand1` of `theorems` says of the readers what the paper says.
 -- Assumes nothing.
+use mathlib.Core.Bool.{Bool}
 use mathlib.Core.List.{List}
 use Prim.Native.Nat.{ℕ}
 use lib.Dec.{ltb}
 use lib.ListN.{length}
 use Rattle.network.specs.declared.refusal.Rule.the-variants.{ByteAfterEnd}
 use Rattle.file_stages.specs.declared.Stage.{Stage}
+use Rattle.file_stages.specs.Stages.{everyKind}
 use Rattle.network.specs.declared.Network.{Network}
 use Rattle.network.specs.declared.refusal.Answer.{Answer}
 use Rattle.network.specs.declared.refusal.Answer.the-variants.{Accepted, Refused}
@@ -17,7 +19,7 @@ use Rattle.file_network.specs.declared.reader.NetworkPart.{NetworkPart}
 use Rattle.network.specs.Refusals.{pick}
 use Rattle.network.specs.Networks.{emptyNetwork}
 use Rattle.file_network.specs.Runs.{Reading, refused, reached, readOn}
-use Rattle.file_network.specs.NetworkFiles.{networkFile}
+use Rattle.file_network.specs.NetworkFiles.{networkFileBy}
 
 -- how far reading came
 abbrev pub reachedOf : {A : Type 0} → Reading A → Reached
@@ -46,8 +48,11 @@ endedBy s (At at stage) = pick (ltb at (length s)) (Refused (record { rule = Byt
 endedBy s (Reached·Refused r) = Refused r
 
 -- "The planning program reads one network file"
-unfoldable pub networkInput : List ℕ → Reading Network
-networkInput s = readOn (networkFile s) (closed s)
+unfoldable pub networkInputBy : (ℕ → Bool) → List ℕ → Reading Network
+networkInputBy known s = readOn (networkFileBy known s) (closed s)
+
+abbrev pub networkInput : List ℕ → Reading Network
+networkInput = networkInputBy everyKind
 
 unfoldable pub networkRead : Reading Network → NetworkRead
 networkRead o = record { answer = answerOf o; net = valueOf emptyNetwork o }

@@ -1,5 +1,6 @@
 // The network file: one head, its elements, its links, one end.
 use file_fields::Seen;
+use file_fields::wide_word_at;
 use file_fields::word_at;
 use file_reader::record_due;
 use file_records::Found;
@@ -16,7 +17,7 @@ ghost use Rattle.file_fields.specs.Fields.{word};
 ghost use Rattle.file_fields.specs.Views.{nothingSeen, networkSeen};
 ghost use Rattle.network.specs.Networks.{emptyNetwork};
 ghost use Rattle.file_network.specs.Runs.{records, always, refused};
-ghost use Rattle.file_network.specs.NetworkFiles.{elementOf, linkOf, withElement, withLink, networkFile, elementsOn, linksOn, endOn};
+ghost use Rattle.file_network.specs.NetworkFiles.{narrowElement, wideElement, elementOf, ElementThere, linkOf, withElement, withLink, networkFile, elementsOn, linksOn, endOn};
 ghost use Rattle.file_network.specs.Inputs.{networkPart};
 ghost use Rattle.file_stages.specs.declared.Stage.{Stage};
 ghost use Rattle.file_stages.specs.declared.Stage.the-variants.{Elements, Links};
@@ -43,10 +44,10 @@ fn refused_network(refusal: Refusal) -> NetworkPart
     }
 }
 
-// The fields of the element record at an offset.
-fn element_at(s: &[u8], at: usize) -> Element
+// The fields of the element record of kind 2 at an offset.
+fn narrow_element(s: &[u8], at: usize) -> Element
     requires { ⌜ at + 10 ≤ length (now s) ⌝ }
-    ensures { λ r. ⌜ r ≡ elementOf (now (s .entry)) at ⌝ }
+    ensures { λ r. ⌜ r ≡ narrowElement (now (s .entry)) at ⌝ }
 {
     let load = word_at(s, at + 4) as u32;
     let capacity = word_at(s, at + 6) as u32;
@@ -56,6 +57,32 @@ fn element_at(s: &[u8], at: usize) -> Element
         capacity,
         flags,
     }
+}
+
+// The fields of the element record of kind 7 at an offset.
+fn wide_element(s: &[u8], at: usize) -> Element
+    requires { ⌜ at + 14 ≤ length (now s) ⌝ }
+    ensures { λ r. ⌜ r ≡ wideElement (now (s .entry)) at ⌝ }
+{
+    let load = wide_word_at(s, at + 4);
+    let capacity = wide_word_at(s, at + 8);
+    let flags = word_at(s, at + 12);
+    Element {
+        load,
+        capacity,
+        flags,
+    }
+}
+
+// The fields of the element record at an offset, by its kind.
+fn element_at(s: &[u8], at: usize, kind: u16) -> Element
+    requires { ⌜ ElementThere (now s) at kind ⌝ }
+    ensures { λ r. ⌜ r ≡ elementOf (now (s .entry)) at ⌝ }
+{
+    if kind == 7 {
+        return wide_element(s, at);
+    }
+    narrow_element(s, at)
 }
 
 // The fields of the link record at an offset.
@@ -90,12 +117,8 @@ fn read_elements(s: &[u8], count: usize, start: usize, first: Stage) -> NetworkP
             Found::Refused(refusal) => {
                 return refused_network(refusal);
             }
-            Found::Record {
-                kind: _,
-                length,
-                next,
-            } => {
-                let element = element_at(s, at);
+            Found::Record { kind, length, next } => {
+                let element = element_at(s, at, kind);
                 let i = net.elements;
                 net.load[i] = element.load;
                 net.capacity[i] = element.capacity;

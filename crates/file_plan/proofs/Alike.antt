@@ -18,8 +18,8 @@ use Rattle.file_network.proofs.Runs.{run-ends}
 use Rattle.file_network.proofs.Looking.{looks, lookThen, lookBehind, Looked, then-looked, look-grows, look-most, run-looked, looks-one, looks-most}
 use Rattle.file_network.proofs.Alike.{Moved, moved-equal, alike, then-alike, one-alike, closed-alike}
 use Rattle.file_plan.specs.declared.plan.Plan.{Plan}
-use Rattle.file_plan.specs.PlanFiles.{emptyPlan, withStep, planEndOn, stepsOn, planFile}
-use Rattle.file_plan.specs.Inputs.{planInput}
+use Rattle.file_plan.specs.PlanFiles.{emptyPlan, withStep, planEndOn, planEndOnBy, stepsOn, stepsOnBy, planFile, planFileBy}
+use Rattle.file_plan.specs.Inputs.{planInput, planInputBy}
 use Rattle.file_plan.proofs.Parts.{planHeadRun}
 use Rattle.file_plan.proofs.Sizes.{planLongest, plan-head-read, plan-size}
 
@@ -40,13 +40,13 @@ planInputLooks s links at = lookThen (planFile s links at) (planLooks s links at
 
 module _ (s : List ℕ) (links : ℕ) where
   steps-looked : (head at : ℕ) (stage : Stage) (p : Plan) → Looked at (stepsOn s (linksSeen links) head at stage p) (stepsLook s links head at stage p)
-  unfolding stepsOn stepsLook planEndOn
+  unfolding stepsOnBy stepsLook planEndOnBy
   steps-looked head at stage p =
       then-looked at _ _ (records s (always (linksSeen links)) (withStep s) (word s (head + 4)) at stage p) (λ q st m. planEndOn s (linksSeen links) q (afterLast st) m)
       (run-looked s (always (linksSeen links)) (withStep s) (word s (head + 4)) at stage p) (λ q st m. run-looked s (always (linksSeen links)) asIs 1 q (afterLast st) m)
 
   pub plan-looked : (head : ℕ) → Looked head (planFile s links head) (planLooks s links head)
-  unfolding planFile planLooks
+  unfolding planFileBy planLooks
   plan-looked head =
       then-looked head _ _ (planHeadRun s links head) (stepsOn s (linksSeen links) head) (run-looked s (always (linksSeen links)) asIs 1 head PlanHead emptyPlan) (steps-looked head)
 
@@ -96,7 +96,7 @@ module _ (s t : List ℕ) (upto links : ℕ) where
 
   steps-on-alike : (head head′ at at′ : ℕ) (p : Plan) → word s (head + 4) ≡ word t (head′ + 4) → SameFrom s t at at′ upto
       → stepsLook s links head at Steps p ≤ upto → Moved _≡_ at at′ (stepsOn s (linksSeen links) head at Steps p) (stepsOn t (linksSeen links) head′ at′ Steps p)
-  unfolding stepsOn stepsLook planEndOn
+  unfolding stepsOnBy stepsLook planEndOnBy
   steps-on-alike head head′ at at′ p counts same =
       let run = run-looked s (always (linksSeen links)) (withStep s) (word s (head + 4)) at Steps p in
       then-alike at at′ upto (looks s (always (linksSeen links)) (withStep s) (word s (head + 4)) at Steps p) (λ q st m. looks s (always (linksSeen links)) asIs 1 q (afterLast st) m)
@@ -110,7 +110,7 @@ module _ (s t : List ℕ) (upto links : ℕ) where
       (λ i st m e far. one-alike s t upto (always (linksSeen links)) (at + i) (at′ + i) (afterLast st) m (same-on same i) far)
 
   pub plan-alike : (at at′ : ℕ) → SameFrom s t at at′ upto → planLooks s links at ≤ upto → Moved _≡_ at at′ (planFile s links at) (planFile t links at′)
-  unfolding planFile planLooks
+  unfolding planFileBy planLooks
   plan-alike at at′ same =
       let run = run-looked s (always (linksSeen links)) asIs 1 at PlanHead emptyPlan in
       then-alike at at′ upto (looks s (always (linksSeen links)) asIs 1 at PlanHead emptyPlan) (stepsLook s links at) (planHeadRun s links at) (planHeadRun t links at′) (stepsOn s (linksSeen links) at)
@@ -125,7 +125,7 @@ module _ (s t : List ℕ) (upto links : ℕ) where
   -- a plan file as input, with rule 13
   pub plan-input-alike : (at at′ : ℕ) → SameFrom s t at at′ upto → planInputLooks s links at ≤ upto
       → Moved _≡_ at at′ (planInput s links at) (planInput t links at′)
-  unfolding planInput planInputLooks
+  unfolding planInputBy planInputLooks
   plan-input-alike at at′ same =
       then-alike at at′ upto (planLooks s links at) lookBehind (planFile s links at) (planFile t links at′) (closed s) (closed t)
       (plan-alike at at′ same)

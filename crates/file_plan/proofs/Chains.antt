@@ -12,7 +12,7 @@ use Rattle.file_stages.specs.Stages.{afterLast}
 use Rattle.file_fields.specs.declared.Seen.{Seen}
 use Rattle.file_fields.specs.Fields.{word}
 use Rattle.file_network.specs.Runs.{Reading, reached, records, always}
-use Rattle.file_plan.specs.PlanFiles.{emptyPlan, withStep, stepsOn, planEndOn}
+use Rattle.file_plan.specs.PlanFiles.{emptyPlan, withStep, stepsOn, stepsOnBy, planEndOn}
 use Rattle.file_plan.specs.Inputs.{planPart}
 use Rattle.file_plan.proofs.Outcomes.{plan-refused, plan-reached}
 
@@ -26,10 +26,10 @@ module _ (s : List ℕ) (seen : Seen) (head at : ℕ) (stage : Stage) (part : Pl
 
   pub steps-refused : (r : Refusal) → part ≡ planPart stepsHere → part .reached ≡ Refused r → part ≡ planPart
       (stepsOn s seen head at stage emptyPlan)
-  unfolding stepsOn
+  unfolding stepsOnBy
   steps-refused r hp h = let q = plan-refused stepsHere thenPlanEnd part r hp h in q .0 ∙ ap planPart (q .1)
 
   pub steps-reached : (after : ℕ) (next : Stage) → part ≡ planPart stepsHere → part .reached ≡ At after next →
       planEndOn s seen after (afterLast next) (part .plan) ≡ stepsOn s seen head at stage emptyPlan
-  unfolding stepsOn
+  unfolding stepsOnBy
   steps-reached after next hp h = plan-reached stepsHere thenPlanEnd part after next hp h .1

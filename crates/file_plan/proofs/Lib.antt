@@ -7,3 +7,4 @@ pub mod Sizes
 pub mod Contents
 pub mod Accepted
 pub mod Alike
+pub mod Known

@@ -10,7 +10,7 @@ use Rattle.file_stages.specs.Stages.{afterLast}
 use Rattle.file_fields.specs.Fields.{word}
 use Rattle.file_fields.specs.Views.{linksSeen}
 use Rattle.file_network.specs.Runs.{Reading, refused, reached, readOn, records, always, asIs}
-use Rattle.file_plan.specs.PlanFiles.{emptyPlan, withStep, planFile, stepsOn, planEndOn}
+use Rattle.file_plan.specs.PlanFiles.{emptyPlan, withStep, planFile, planFileBy, stepsOn, stepsOnBy, planEndOn, planEndOnBy}
 
 -- The plan file at an offset, in a network of so many links.
 
@@ -28,7 +28,7 @@ module _ (s : List ℕ) (links head : ℕ) where
   withSteps = readOn planHeadRun stepsRun
 
   pub plan-chain : planFile s links head ≡ readOn withSteps planEndRun
-  unfolding planFile stepsOn planEndOn
+  unfolding planFileBy stepsOnBy planEndOnBy
   plan-chain = go planHeadRun
     where
       last : (o : Reading Plan) → readOn o (λ after next p. planEndOn s (linksSeen links) after (afterLast next) p) ≡ readOn o planEndRun

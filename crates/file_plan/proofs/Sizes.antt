@@ -12,7 +12,7 @@ use Rattle.file_fields.specs.Fields.{word}
 use Rattle.file_fields.specs.Views.{linksSeen}
 use Rattle.file_network.specs.Runs.{reached, records, always, asIs}
 use Rattle.file_plan.specs.PlanFiles.{emptyPlan, withStep, planFile}
-use Rattle.file_plan.specs.Inputs.{planInput}
+use Rattle.file_plan.specs.Inputs.{planInput, planInputBy}
 use Rattle.file_records.proofs.Due.{longest, plan-head-kept}
 use Rattle.file_network.proofs.Runs.{run-count, run-ends, one-record}
 use Rattle.file_network.proofs.Parts.{then-reached, closed-reached}
@@ -88,7 +88,7 @@ module _ (s : List ℕ) (links head at : ℕ) (stage : Stage) (p : Plan) where
       }
 
   pub plan-input-size : planInput s links head ≡ reached at stage p → (planFile s links head ≡ reached at stage p) × (length s ≡ at)
-  unfolding planInput
+  unfolding planInputBy
   plan-input-size h =
       let c = closed-reached s (planFile s links head) at stage p h in
       let size = plan-size (c .0) in

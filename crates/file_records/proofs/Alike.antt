@@ -17,8 +17,8 @@ use Rattle.file_records.specs.declared.Found.the-variants.{Record, Refus
 use Rattle.network.specs.Refusals.{pick, firstBroken}
 use Rattle.file_stages.specs.Stages.{nextStage}
 use Rattle.file_fields.specs.declared.Seen.{Seen}
-use Rattle.file_fields.specs.Fields.{word, lengthOf, headRules, elementRules, linkRules, planHeadRules, stepRules, fieldRules}
-use Rattle.file_records.specs.Records.{lengthField, kindField, isRefused, foundBy, frameRules, recordRules, recordAt, dueAt}
+use Rattle.file_fields.specs.Fields.{word, lengthOf, headRules, flagsRules, linkRules, planHeadRules, stepRules, fieldRules}
+use Rattle.file_records.specs.Records.{lengthField, kindField, isRefused, foundBy, frameRules, frameRulesBy, recordRules, recordRulesBy, recordAt, dueAt, dueBy}
 use Rattle.file_records.proofs.Due.{elseFirst, first-append, Framed, longest, of-kind, goes-one-way, not-refused, length-at, frame-kept}
 use Rattle.file_records.proofs.SameBytes.{SameFrom, first-word, left-same}
 
@@ -75,7 +75,7 @@ pub fields-alike :
     (s t : List ℕ) (at at′ kind : ℕ) (seen : Seen) →
     ((i : ℕ) → i + 2 ≤ lengthOf kind → word s (at + i) ≡ word t (at′ + i)) →
     fieldRules s at kind seen ≡ fieldRules t at′ kind seen
-unfolding fieldRules headRules elementRules linkRules planHeadRules stepRules lengthOf
+unfolding fieldRules headRules flagsRules linkRules planHeadRules stepRules lengthOf
 fields-alike s t at at′ kind seen =
     let Same : ℕ → Type 0 =
     λ k.
@@ -87,7 +87,9 @@ fields-alike s t at at′ kind seen =
     of-kind Same kind 3 (λ w. rw (w 4 (omega arith), w 6 (omega arith), w 8 (omega arith), w 10 (omega arith)))
     (λ e3.
     of-kind Same kind 5 (λ w. rw (w 4 (omega arith)))
-    (λ e5. of-kind Same kind 6 (λ w. rw (w 4 (omega arith), w 6 (omega arith))) (λ e6 w. rw (e1, e2, e3, e5, e6))))))
+    (λ e5.
+    of-kind Same kind 6 (λ w. rw (w 4 (omega arith), w 6 (omega arith)))
+    (λ e6. of-kind Same kind 7 (λ w. rw (w 12 (omega arith))) (λ e7 w. rw (e1, e2, e3, e5, e6, e7)))))))
 
 -- One record, due at two places.
 
@@ -115,7 +117,7 @@ module _ (s t : List ℕ) (at at′ upto : ℕ) (stage : Stage) (same : SameFrom
   four = omega (arith, looks-four s at stage)
 
   frame-alike : firstBroken (frameRules s at stage) ≡ firstBroken (frameRules t at′ stage)
-  unfolding frameRules looksAt lengthKnown
+  unfolding frameRulesBy looksAt lengthKnown
   frame-alike =
       rw (← first-word same (omega (arith, four)), ← same .words 2 (omega (arith, four)), ← left-same same 4 four)
       (behind-three (ltb (length s - at) 4) (isRefused (nextStage stage (kindField s at))) (eqb (lengthField s at) (lengthOf (kindField s at)))
@@ -124,7 +126,7 @@ module _ (s t : List ℕ) (at at′ upto : ℕ) (stage : Stage) (same : SameFrom
       (λ h. left-same same (lengthField s at) (rw h at far)))
 
   verdict-alike : (seen : Seen) → firstBroken (recordRules s seen at stage) ≡ firstBroken (recordRules t seen at′ stage)
-  unfolding recordRules recordAt
+  unfolding recordRulesBy recordAt
   verdict-alike seen =
       first-append (frameRules s at stage) (fieldRules s at (kindField s at) seen) ∙
       or-else-same (firstBroken (frameRules s at stage)) _ _
@@ -143,6 +145,6 @@ module _ (s t : List ℕ) (at at′ upto : ℕ) (stage : Stage) (same : SameFrom
 
   -- where the bytes are the same as far as the record looks, the same is found
   pub due-alike : (seen : Seen) → dueAt t seen at′ stage ≡ placed at′ (dueAt s seen at stage)
-  unfolding dueAt
+  unfolding dueBy
   due-alike seen =
       ap (foundBy t at′ stage) (sym (verdict-alike seen)) ∙ found-alike (firstBroken (recordRules s seen at stage))

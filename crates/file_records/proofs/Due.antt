@@ -3,6 +3,7 @@
 use mathlib.Core.Path.{_≡_, refl, sym, ap, subst, _∙_}
 use mathlib.Core.Bool.{Bool, true, false}
 use mathlib.Core.List.{List, [], _∷_, _++_}
+use mathlib.Core.Logic.{_⊎_, inl, inr}
 use Prim.Native.Nat.{ℕ, _+_, _-_, _<_, _≤_}
 use native.Mathlib.Omega.{arith}
 use lib.Dec.{eqb, ltb, leb}
@@ -18,11 +19,11 @@ use Rattle.file_stages.specs.declared.Next.{Next}
 use Rattle.file_stages.specs.declared.Next.the-variants.{Go, Refused as Next·Refused}
 use Rattle.file_records.specs.declared.Found.the-variants.{Record, Refused}
 use Rattle.network.specs.Refusals.{Check, pick, firstBroken}
-use Rattle.file_stages.specs.Stages.{goesTo, nextStage}
+use Rattle.file_stages.specs.Stages.{goesTo, nextStage, pick as Next·pick}
 use Rattle.network.specs.Accepted.{suits}
 use Rattle.file_fields.specs.declared.Seen.{Seen}
-use Rattle.file_fields.specs.Fields.{word, lengthOf, either, headRules, elementRules, linkRules, planHeadRules, stepRules, fieldRules}
-use Rattle.file_records.specs.Records.{lengthField, kindField, isRefused, named, foundBy, frameRules, recordRules, recordAt, dueAt}
+use Rattle.file_fields.specs.Fields.{word, lengthOf, either, headRules, flagsRules, linkRules, planHeadRules, stepRules, fieldRules}
+use Rattle.file_records.specs.Records.{lengthField, kindField, isRefused, named, foundBy, frameRules, frameRulesBy, recordRules, recordRulesBy, recordAt, dueAt, dueBy}
 
 -- The first broken of two lists of rules.
 
@@ -68,7 +69,7 @@ either-false false b h = (refl, h)
 
 abbrev pub KindAt : Stage → ℕ → Type 0
 KindAt Head k = k ≡ 1
-KindAt Elements k = k ≡ 2
+KindAt Elements k = (k ≡ 2) ⊎ (k ≡ 7)
 KindAt Links k = k ≡ 3
 KindAt End k = k ≡ 4
 KindAt PlanHead k = k ≡ 5
@@ -100,7 +101,7 @@ shortest Over = 0
 
 abbrev pub longest : Stage → ℕ
 longest Head = 8
-longest Elements = 10
+longest Elements = 14
 longest Links = 12
 longest End = 4
 longest PlanHead = 6
@@ -115,10 +116,17 @@ leads-go false st next h = let z : _≡_ {A = ℕ} 0 1 = cc in absurd (omega ari
 leads-one : (k n : ℕ) (st next : Stage) → goesTo (eqb k n) st ≡ Go next → (k ≡ n) × (next ≡ st)
 leads-one k n st next h = let l = leads-go (eqb k n) st next h in (eqb-true k n (l .0), l .1)
 
+leads-two : (k m n : ℕ) (st next : Stage) → Next·pick (eqb k n) (Go st) (goesTo (eqb k m) st) ≡ Go next → ((k ≡ m) ⊎ (k ≡ n)) × (next ≡ st)
+leads-two k m n st next h = one-of (eqb k n) refl h
+  where
+    one-of : (t : Bool) → eqb k n ≡ t → Next·pick t (Go st) (goesTo (eqb k m) st) ≡ Go next → ((k ≡ m) ⊎ (k ≡ n)) × (next ≡ st)
+    one-of true e h = (inr (eqb-true k n e), cc)
+    one-of false e h = let l = leads-one k m st next h in (inl (l .0), l .1)
+
 pub goes-one-way : (st : Stage) (k : ℕ) (next : Stage) → nextStage st k ≡ Go next → KindAt st k × (next ≡ nextAt st)
 unfolding nextStage
 goes-one-way Head k next h = leads-one k 1 Elements next h
-goes-one-way Elements k next h = leads-one k 2 Elements next h
+goes-one-way Elements k next h = leads-two k 2 7 Elements next h
 goes-one-way Links k next h = leads-one k 3 Links next h
 goes-one-way End k next h = leads-one k 4 PlanHead next h
 goes-one-way PlanHead k next h = leads-one k 5 Steps next h
@@ -141,7 +149,8 @@ LengthAt st long = (4 ≤ long) × (shortest st ≤ long) × (long ≤ longest s
 pub length-at : (st : Stage) (k : ℕ) → KindAt st k → LengthAt st (lengthOf k)
 unfolding lengthOf
 length-at Head k e = rw e (omega arith)
-length-at Elements k e = rw e (omega arith)
+length-at Elements k (inl e) = rw e (omega arith)
+length-at Elements k (inr e) = rw e (omega arith)
 length-at Links k e = rw e (omega arith)
 length-at End k e = rw e (omega arith)
 length-at PlanHead k e = rw e (omega arith)
@@ -194,7 +203,7 @@ framed-of :
     lengthField s at ≡ long →
     named (nextStage stage (kindField s at)) stage ≡ next →
     Framed s at stage kind long next
-unfolding frameRules
+unfolding frameRulesBy
 framed-of s at stage kind long next h hk hl hn =
     let goes : nextStage stage kind ≡ Go next = cc (not-refused (nextStage stage (kindField s at)) stage (h .1 .0)) in
     let one = goes-one-way stage kind next goes in
@@ -229,7 +238,7 @@ module _ (s : List ℕ) (at : ℕ) (stage : Stage) where
 module _ (s : List ℕ) (seen : Seen) (at : ℕ) (stage : Stage) where
   pub due-kept : {kind long : ℕ} {next : Stage} → dueAt s seen at stage ≡ Record kind long next → Whole s seen at stage kind long
       next
-  unfolding dueAt recordRules
+  unfolding dueBy recordRulesBy
   due-kept {kind} {long} {next} h =
       let f = found-kept s at stage (firstBroken (recordRules s seen at stage)) kind long next h in
       let both = first-append-kept (frameRules s at stage) (fieldRules s at (kindField s at) seen) (f .0) in
@@ -246,12 +255,12 @@ module _ (s : List ℕ) (seen : Seen) (at : ℕ) (stage : Stage) where
       {r : Refusal} →
       dueAt s seen at stage ≡ Refused r →
       (firstBroken (recordRules s seen at stage) ≡ Broken (r .rule)) × (r .place ≡ at)
-  unfolding dueAt
+  unfolding dueBy
   due-refused {r} h = found-refused s at stage (firstBroken (recordRules s seen at stage)) r h
 
   -- `dueAt` is `recordAt`, then the rules of the kind
   pub due-frame-refused : (r : Refusal) → recordAt s at stage ≡ Refused r → dueAt s seen at stage ≡ Refused r
-  unfolding recordAt dueAt recordRules
+  unfolding recordAt dueBy recordRulesBy
   due-frame-refused r h =
       let f = found-refused s at stage (firstBroken (frameRules s at stage)) r h in
       ap (foundBy s at stage)
@@ -263,7 +272,7 @@ module _ (s : List ℕ) (seen : Seen) (at : ℕ) (stage : Stage) where
       (kind long : ℕ) (next : Stage) →
       recordAt s at stage ≡ Record kind long next →
       dueAt s seen at stage ≡ foundBy s at stage (firstBroken (fieldRules s at kind seen))
-  unfolding recordAt dueAt recordRules
+  unfolding recordAt dueBy recordRulesBy
   due-fields kind long next h =
       let f = found-kept s at stage (firstBroken (frameRules s at stage)) kind long next h in
       ap (foundBy s at stage)
@@ -287,6 +296,19 @@ module _ (s : List ℕ) (seen : Seen) (at : ℕ) (stage : Stage) where
       firstBroken (fieldRules s at kind seen) ≡ Broken r →
       dueAt s seen at stage ≡ Refused (record { rule = r; place = at })
   due-fields-broken kind long next r h e = due-fields kind long next h ∙ ap (foundBy s at stage) e
+
+-- a record that breaks no rule is found
+pub whole-found :
+    {s : List ℕ} {seen : Seen} {at : ℕ} {stage : Stage} {kind long : ℕ} {next : Stage} →
+    Whole s seen at stage kind long next →
+    dueAt s seen at stage ≡ Record kind long next
+unfolding dueBy
+whole-found {s} {seen} {at} {stage} {kind} {long} {next} w =
+    let f = w .framed in
+    let n : named (nextStage stage (kindField s at)) stage ≡ next =
+    ap (λ (k : ℕ). named (nextStage stage k) stage) (sym (f .kind-is)) ∙ ap (λ (x : Next). named x stage) (f .goes) in
+    let here : foundBy s at stage Kept ≡ Record kind long next = cc (f .kind-is, f .long-is, n) in
+    ap (foundBy s at stage) (w .kept) ∙ here
 
 -- What rules 5 to 12 promise of a record: at each stage one of its kinds, and of each kind its own rules.
 
@@ -332,8 +354,12 @@ module _ {s : List ℕ} {seen : Seen} {at kind long : ℕ} {next : Stage} where
 -- at the stages of elements and links, of each kind by itself
 module _ {s : List ℕ} {seen : Seen} {at : ℕ} {stage : Stage} {long : ℕ} {next : Stage} where
   pub element-kept : Whole s seen at stage 2 long next → word s (at + 8) ≤ 3
-  unfolding fieldRules elementRules
+  unfolding fieldRules flagsRules
   element-kept w = ltb-false 3 (word s (at + 8)) (w .fields .0)
+
+  pub wide-kept : Whole s seen at stage 7 long next → word s (at + 12) ≤ 3
+  unfolding fieldRules flagsRules
+  wide-kept w = ltb-false 3 (word s (at + 12)) (w .fields .0)
 
   pub link-kept :
       Whole s seen at stage 3 long next →

@@ -2,3 +2,4 @@ pub mod Due
 pub mod Reader
 pub mod SameBytes
 pub mod Alike
+pub mod Known

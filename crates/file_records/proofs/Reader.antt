@@ -19,7 +19,7 @@ use Rattle.network.specs.Refusals.{firstBroken}
 use Rattle.file_stages.specs.Stages.{nextStage}
 use Rattle.file_fields.specs.declared.Seen.{Seen}
 use Rattle.file_fields.specs.Fields.{word, lengthOf, fieldRules}
-use Rattle.file_records.specs.Records.{kindField, named, foundBy, frameRules, recordAt, dueAt}
+use Rattle.file_records.specs.Records.{kindField, named, foundBy, frameRules, frameRulesBy, recordAt, dueAt}
 use Rattle.file_records.proofs.Due.{frame-kept, due-fields}
 
 abbrev pub refusal : Rule → ℕ → Found
@@ -29,24 +29,24 @@ refusal r p = Refused (record { rule = r; place = p })
 module _ (s : List ℕ) (at : ℕ) (stage : Stage) (left kind : ℕ) (next : Next) (hl : left ≡ length s - at) (hk : kind ≡ word s (at + 2))
     (hn : next ≡ nextStage stage kind) where
   pub missing : left < 4 → refusal RecordMissing at ≡ recordAt s at stage
-  unfolding recordAt frameRules
+  unfolding recordAt frameRulesBy
   missing h = simp (← hl, lt-ltb left 4 h)
 
   pub out-of-place : 4 ≤ left → next ≡ Next·Refused → refusal KindOutOfPlace at ≡ recordAt s at stage
-  unfolding recordAt frameRules
+  unfolding recordAt frameRulesBy
   out-of-place h e = simp (← hl, le-ltb left 4 h, ← hk, ← hn, e)
 
   module _ (then : Stage) (long own : ℕ) (h : 4 ≤ left) (go : next ≡ Go then) (hlong : long ≡ word s at) (hown : own ≡ lengthOf kind) where
     pub wrong-length : (long ≡ own → ⊥) → refusal WrongLength at ≡ recordAt s at stage
-    unfolding recordAt frameRules
+    unfolding recordAt frameRulesBy
     wrong-length ne = simp (← hl, le-ltb left 4 h, ← hk, ← hn, go, ← hlong, ← hown, ne-eqb long own ne)
 
     pub cut-off : long ≡ own → left < long → refusal RecordCutOff at ≡ recordAt s at stage
-    unfolding recordAt frameRules
+    unfolding recordAt frameRulesBy
     cut-off e less = simp (← hl, le-ltb left 4 h, ← hk, ← hn, go, ← hlong, ← hown, eq-eqb long own e, lt-ltb left long less)
 
     pub whole : long ≡ own → long ≤ left → Record kind long then ≡ recordAt s at stage
-    unfolding recordAt frameRules
+    unfolding recordAt frameRulesBy
     whole e fits = simp (← hl, le-ltb left 4 h, ← hk, ← hn, go, ← hlong, ← hown, eq-eqb long own e, le-ltb left long fits)
 
 -- what a verdict on the fields makes of a record that the reader found

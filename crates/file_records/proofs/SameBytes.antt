@@ -10,7 +10,7 @@ use lib.Dec.{ltb}
 use lib.ListN.{length, take, length-take, length-append, List·getD-append}
 use lib.Seq.{getD-take, getD-append-add}
 use borrow.Author.Tests.{ltb-true, ltb-false, lt-ltb, le-ltb}
-use Rattle.file_fields.specs.Fields.{word}
+use Rattle.file_fields.specs.Fields.{word, wideWord}
 
 -- the bytes of s from `at` on and those of t from `at′` on are the same up to an offset of s: each number is, and so is whether so many bytes remain
 pub record SameFrom (s t : List ℕ) (at at′ upto : ℕ) : Type 0 where
@@ -39,6 +39,11 @@ module _ {s t : List ℕ} {at at′ upto : ℕ} (same : SameFrom s t at at′ up
 
   pub first-word : at + 2 ≤ upto → word s at ≡ word t at′
   first-word h = rw (add-zero at, add-zero at′) at (same .words 0 (omega arith))
+
+  pub wide-words : (i : ℕ) → at + i + 4 ≤ upto → wideWord s (at + i) ≡ wideWord t (at′ + i)
+  unfolding wideWord
+  wide-words i h =
+      rw (add-assoc at i 2, add-assoc at′ i 2, same .words i (omega arith), same .words (i + 2) (omega arith))
 
   -- rules 1 and 4
   pub left-same : (n : ℕ) → at + n ≤ upto → ltb (length s - at) n ≡ ltb (length t - at′) n

@@ -11,7 +11,7 @@ use Rattle.file_records.specs.declared.Found.the-variants.{Record, Refused}
 use Rattle.file_fields.specs.declared.Seen.{Seen}
 use Rattle.file_records.specs.Records.{lengthField, dueAt}
 use Rattle.file_records.proofs.Due.{nextAt, due-kept}
-use Rattle.file_network.specs.Runs.{Reading, refused, reached, readOn, onFound, records}
+use Rattle.file_network.specs.Runs.{Reading, refused, reached, readOn, onFound, records, recordsBy}
 use Rattle.file_refusals.specs.Breaking.{Keeps}
 use Rattle.file_refusals.specs.Files.{Stand, none, next, FirstBreak, here, later}
 use Rattle.file_refusals.proofs.Record.{Told, breaks-once, keeps-unbroken, due-breaks, due-keeps}
@@ -84,7 +84,7 @@ module _ (s : List ℕ) (E K : ℕ) where
 
   pub one-ran : {A : Type 0} (seen : A → Seen) (into : ℕ → A → A) (at : ℕ) (stage : Stage) (a : A) → Told s E K at stage (seen a)
       → Ran (stage ∷ []) at (records s seen into 1 at stage a)
-  unfolding records
+  unfolding recordsBy
   one-ran seen into at stage a told =
       then-ran (seen a) at stage [] (λ long after. records s seen into 0 (at + long) after (into at a)) told (λ kind long after d. none)
 
@@ -93,7 +93,7 @@ module _ (s : List ℕ) (E K : ℕ) where
       → ((at : ℕ) (a : A) → Q at a → Told s E K at stage (seen a))
       → ((at : ℕ) (a : A) (kind long : ℕ) (after : Stage) → dueAt s (seen a) at stage ≡ Record kind long after → Q at a → Q (at + long) (into at a))
       → (n at : ℕ) (a : A) → Q at a → Ran (replicate n stage) at (records s seen into n at stage a)
-  unfolding records
+  unfolding recordsBy
   many-ran seen into stage Q back told keeps zero at a q = none
   many-ran seen into stage Q back told keeps (suc n) at a q =
       then-ran (seen a) at stage (replicate n stage) (λ long after. records s seen into n (at + long) after (into at a)) (told at a q)

@@ -19,16 +19,16 @@ use Rattle.file_fields.specs.Fields.{word}
 use Rattle.file_fields.specs.Views.{nothingSeen, networkSeen, linksSeen}
 use Rattle.file_network.specs.Runs.{Reading, refused, reached, readOn, records, always, asIs}
 use Rattle.file_network.specs.NetworkFiles.{withElement, withLink, networkFile}
-use Rattle.file_network.specs.Inputs.{closed, networkInput}
+use Rattle.file_network.specs.Inputs.{closed, networkInput, networkInputBy}
 use Rattle.file_network.proofs.Parts.{headRun, elementsRun, linksRun, endRun, withElements, withLinks, network-chain}
 use Rattle.file_network.proofs.Sizes.{head-read, elements-read, links-read, network-size}
 use Rattle.file_plan.specs.declared.plan.Plan.{Plan}
 use Rattle.file_plan.specs.PlanFiles.{emptyPlan, withStep, planFile}
-use Rattle.file_plan.specs.Inputs.{planInput}
+use Rattle.file_plan.specs.Inputs.{planInput, planInputBy}
 use Rattle.file_plan.proofs.Parts.{planHeadRun, stepsRun, planEndRun, withSteps, plan-chain}
 use Rattle.file_plan.proofs.Sizes.{plan-head-read, steps-read, plan-size}
-use Rattle.file_both.specs.Inputs.{paired, planBehind, bothInput}
-use Rattle.file_refusals.specs.Files.{networkStages, planStages, NetworkStands, PlanStands, PlanBreaks, FirstBroken, in-file, behind, FirstBrokenBoth, in-network, in-plan, behind-plan, KeepsNetwork}
+use Rattle.file_both.specs.Inputs.{paired, planBehind, planBehindBy, bothInput, bothInputBy}
+use Rattle.file_refusals.specs.Files.{networkStages, planStages, NetworkStands, PlanStands, PlanBreaks, FirstBroken, in-file, behind, FirstBrokenBoth, in-network, in-plan, behind-plan, KeepsNetwork, KeepsBoth}
 use Rattle.file_refusals.proofs.Files.{stand-once, break-once, stand-unbroken, Ran, ran-then, one-ran, many-ran}
 
 -- ---- the files
@@ -118,12 +118,6 @@ module _ (s : List ℕ) where
 
 -- ---- one case, and no other
 
--- the judge's input keeps rules 1 to 13
-pub record KeepsBoth (s : List ℕ) : Type 0 where
-  pub middle : ℕ
-  pub network : NetworkStands s middle
-  pub plan : PlanStands s middle (length s)
-
 first-once : (s : List ℕ) {f g : Refusal} → FirstBroken s f → FirstBroken s g → f ≡ g
 first-once s (in-file x) (in-file y) = break-once s (word s 4) (word s 6) x y
 first-once s (in-file x) (behind y _) = absurd (stand-unbroken s (word s 4) (word s 6) y x)
@@ -164,7 +158,7 @@ ReadAs s (refused f) = FirstBroken s f
 ReadAs s (reached at stage n) = KeepsNetwork s
 
 network-read-as : (s : List ℕ) → ReadAs s (networkInput s)
-unfolding networkInput
+unfolding networkInputBy
 network-read-as s = go (networkFile s) refl (network-ran s)
   where
     go : (o : Reading Network) → networkFile s ≡ o → Ran s (word s 4) (word s 6) (networkStages (word s 4) (word s 6)) 0 o → ReadAs s (readOn o (closed s))
@@ -203,7 +197,7 @@ BothAs s (refused f) = FirstBrokenBoth s f
 BothAs s (reached at stage x) = KeepsBoth s
 
 both-read-as : (s : List ℕ) → BothAs s (bothInput s)
-unfolding bothInput planBehind planInput
+unfolding bothInputBy planBehindBy planInputBy
 both-read-as s = go (networkFile s) refl (network-ran s)
   where
     plan : (mid : ℕ) (n : Network) → NetworkStands s mid → (o : Reading Plan) → planFile s (word s 6) mid ≡ o

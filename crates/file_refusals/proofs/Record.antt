@@ -25,10 +25,11 @@ use Rattle.network.specs.Refusals.{position, Sooner, Check, check, pick, firstB
 use Rattle.network.proofs.Order.{position-once}
 use Rattle.network.specs.Accepted.{suits}
 use Rattle.file_fields.specs.declared.Seen.{Seen}
-use Rattle.file_fields.specs.Fields.{word, lengthOf, either, only, headRules, elementRules, linkRules, planHeadRules, stepRules, fieldRules}
-use Rattle.file_records.specs.Records.{lengthField, kindField, isRefused, named, frameRules, recordRules, dueAt}
+use Rattle.file_fields.specs.Fields.{word, lengthOf, either, only, elementKind, flagsAt, headRules, flagsRules, linkRules, planHeadRules, stepRules, fieldRules}
+use Rattle.file_records.specs.Records.{lengthField, kindField, isRefused, named, frameRules, frameRulesBy, recordRules, recordRulesBy, dueAt}
 use Rattle.file_records.proofs.Due.{first-append, either-false, elseFirst, goes-one-way, due-kept, due-refused}
-use Rattle.file_refusals.specs.Breaking.{ComesNext, behind-head, behind-element, behind-link, behind-end, behind-plan-head, behind-step, behind-plan-end, MayCome, KindLength, network-head, element, link, end, plan-head, step, InRange, CostSuits, BreaksRule, Keeps, BreaksFirst}
+use Rattle.file_refusals.specs.Breaking.{ComesNext, behind-head, behind-element, behind-wide-element, behind-link, behind-end, behind-plan-head, behind-step, behind-plan-end, MayCome, KindLength, network-head, element, link, end, plan-head, step, wide-element, InRange, CostSuits, BreaksRule, Keeps, BreaksFirst}
+use Rattle.file_refusals.proofs.Elements.{states-kind, states-flags, kind-stating}
 
 -- ---- a list of tests decides which of the rules from one position up to another is the first that is broken
 
@@ -82,9 +83,13 @@ module _ (P : Rule → Type 0) where
 -- ---- what the tests of rules 2, 3, 5, 7 and 9 say
 
 -- the table that is computed is the paper's
-comes-next : (stage : Stage) (kind : ℕ) (next : Stage) → nextStage stage kind ≡ Go next → ComesNext stage kind next
+pub comes-next : (stage : Stage) (kind : ℕ) (next : Stage) → nextStage stage kind ≡ Go next → ComesNext stage kind next
 comes-next Head kind next h = let g = goes-one-way Head kind next h in rw (g .0, g .1) behind-head
-comes-next Elements kind next h = let g = goes-one-way Elements kind next h in rw (g .0, g .1) behind-element
+comes-next Elements kind next h = let g = goes-one-way Elements kind next h in rw (g .1) (either-way (g .0))
+  where
+    either-way : (kind ≡ 2) ⊎ (kind ≡ 7) → ComesNext Elements kind Elements
+    either-way (inl e) = rw e behind-element
+    either-way (inr e) = rw e behind-wide-element
 comes-next Links kind next h = let g = goes-one-way Links kind next h in rw (g .0, g .1) behind-link
 comes-next End kind next h = let g = goes-one-way End kind next h in rw (g .0, g .1) behind-end
 comes-next PlanHead kind next h = let g = goes-one-way PlanHead kind next h in rw (g .0, g .1) behind-plan-head
@@ -92,10 +97,11 @@ comes-next Steps kind next h = let g = goes-one-way Steps kind next h in rw (g .
 comes-next PlanEnd kind next h = let g = goes-one-way PlanEnd kind next h in rw (g .0, g .1) behind-plan-end
 comes-next Over kind next h = absurd (goes-one-way Over kind next h .0)
 
-in-table : {stage : Stage} {kind : ℕ} {next : Stage} → ComesNext stage kind next → nextStage stage kind ≡ Go next
+pub in-table : {stage : Stage} {kind : ℕ} {next : Stage} → ComesNext stage kind next → nextStage stage kind ≡ Go next
 unfolding nextStage
 in-table behind-head = refl
 in-table behind-element = refl
+in-table behind-wide-element = refl
 in-table behind-link = refl
 in-table behind-end = refl
 in-table behind-plan-head = refl
@@ -126,13 +132,14 @@ comes-long stage kind (next, c) = go c
     go : {stage : Stage} {kind : ℕ} {next : Stage} → ComesNext stage kind next → KindLength kind (lengthOf kind)
     go behind-head = network-head
     go behind-element = element
+    go behind-wide-element = wide-element
     go behind-link = link
     go behind-end = end
     go behind-plan-head = plan-head
     go behind-step = step
     go behind-plan-end = end
 
-length-only : {kind long : ℕ} → KindLength kind long → long ≡ lengthOf kind
+pub length-only : {kind long : ℕ} → KindLength kind long → long ≡ lengthOf kind
 unfolding lengthOf
 length-only network-head = refl
 length-only element = refl
@@ -140,6 +147,7 @@ length-only link = refl
 length-only end = refl
 length-only plan-head = refl
 length-only step = refl
+length-only wide-element = refl
 
 either-true : (a b : Bool) → either a b ≡ true → (a ≡ true) ⊎ (b ≡ true)
 either-true true b e = inl refl
@@ -210,6 +218,7 @@ link-stage (next, c) e = go c e
     go : {stage : Stage} {kind : ℕ} {next : Stage} → ComesNext stage kind next → kind ≡ 3 → stage ≡ Links
     go behind-head e = absurd (omega (arith, e))
     go behind-element e = absurd (omega (arith, e))
+    go behind-wide-element e = absurd (omega (arith, e))
     go behind-link e = refl
     go behind-end e = absurd (omega (arith, e))
     go behind-plan-head e = absurd (omega (arith, e))
@@ -222,6 +231,7 @@ step-stage (next, c) e = go c e
     go : {stage : Stage} {kind : ℕ} {next : Stage} → ComesNext stage kind next → kind ≡ 6 → stage ≡ Steps
     go behind-head e = absurd (omega (arith, e))
     go behind-element e = absurd (omega (arith, e))
+    go behind-wide-element e = absurd (omega (arith, e))
     go behind-link e = absurd (omega (arith, e))
     go behind-end e = absurd (omega (arith, e))
     go behind-plan-head e = absurd (omega (arith, e))
@@ -243,7 +253,7 @@ module _ (s : List ℕ) (E K at : ℕ) (stage : Stage) where
       go false t = may-come stage (kindField s at) t
 
   frame-decides : Decides P (position RecordMissing) (position HeadOutOfRange) (frameRules s at stage)
-  unfolding frameRules position
+  unfolding frameRulesBy position
   frame-decides =
       decides-one P RecordMissing (ltb (length s - at) 4) (λ _ t. ltb-true (length s - at) 4 t)
       (λ _ t h. omega (arith, ltb-false (length s - at) 4 t))
@@ -267,7 +277,7 @@ module _ (s : List ℕ) (E K at : ℕ) (stage : Stage) where
   heads = only (eqb (kindField s at) 1) (headRules s at)
 
   abbrev elements : List Check
-  elements = only (eqb (kindField s at) 2) (elementRules s at)
+  elements = only (elementKind (kindField s at)) (flagsRules s (at + flagsAt (kindField s at)))
 
   abbrev plans : List Check
   plans = only (eqb (kindField s at) 5) (planHeadRules s at)
@@ -282,13 +292,21 @@ module _ (s : List ℕ) (E K at : ℕ) (stage : Stage) where
       (λ t kept. kept-more P HeadOutOfRange kept (λ p. eqb-false (kindField s at) 1 t (p .0)))
 
   element-part : Decides P (position UnknownFlags) (position BadEnds) elements
-  unfolding elementRules position
+  unfolding flagsRules position
   element-part =
-      decides-only P (position UnknownFlags) (position BadEnds) (eqb (kindField s at) 2) (elementRules s at)
-      (λ t. decides-one P UnknownFlags (ltb 3 (word s (at + 8)))
-      (λ _ h. (eqb-true (kindField s at) 2 t, ltb-true 3 (word s (at + 8)) h))
-      (λ _ h p. omega (arith, ltb-false 3 (word s (at + 8)) h, p .1)) (decides-none P (position BadEnds)))
-      (λ t kept. kept-more P UnknownFlags kept (λ p. eqb-false (kindField s at) 2 t (p .0)))
+      decides-only P (position UnknownFlags) (position BadEnds) (elementKind (kindField s at)) (flagsRules s flags)
+      (λ t. decides-one P UnknownFlags (ltb 3 (word s flags))
+      (λ _ h.
+      let x = kind-stating t in
+      (x .load, x .capacity, x .flags, x .states, omega (arith, states-flags (x .states), ltb-true 3 (word s flags) h)))
+      (λ _ h p. omega (arith, ltb-false 3 (word s flags) h, states-flags (p .3), p .4)) (decides-none P (position BadEnds)))
+      (λ t kept. kept-more P UnknownFlags kept (λ p. let z : true ≡ false = sym (states-kind (p .3)) ∙ t in truly z))
+    where
+      flags : ℕ
+      flags = at + flagsAt (kindField s at)
+
+      truly : true ≡ false → ⊥
+      truly z = let y : _≡_ {A = ℕ} 0 1 = cc in absurd (omega arith)
 
   plan-part : Decides P (position TooManySteps) (position UnknownLink) plans
   unfolding planHeadRules position
@@ -432,7 +450,7 @@ module _ (s : List ℕ) (E K at : ℕ) (stage : Stage) where
         step-part
 
     rules-decide : Decides P (position RecordMissing) (position ByteAfterEnd) (recordRules s seen at stage)
-    unfolding recordRules
+    unfolding recordRulesBy
     rules-decide =
         decides-append P (position RecordMissing) (position HeadOutOfRange) (position ByteAfterEnd) (frameRules s at stage)
         (fieldRules s at (kindField s at) seen) frame-decides fields-decide

@@ -3,6 +3,7 @@
 use mathlib.Core.Path.{_≡_, refl, sym, ap, subst, _∙_}
 use mathlib.Core.Bool.{Bool, true, false}
 use mathlib.Core.List.{List, [], _∷_, _++_}
+use mathlib.Core.Logic.{_⊎_, inl, inr}
 use Prim.Native.Nat.{ℕ, zero, suc, _+_, _≤_}
 use native.Mathlib.Omega.{arith}
 use lib.Dec.{ltb}
@@ -25,8 +26,11 @@ use Rattle.file_network.proofs.Runs.{records-keep, run-same, run-count}
 use Rattle.file_network.proofs.Parts.{headRun, elementsRun, linksRun, endRun, withElements, withLinks, network-chain}
 use Rattle.file_network.proofs.Sizes.{head-read, LinksRead, network-size}
 use Rattle.file_network.proofs.Contents.{NetworkHolds, network-holds}
+use Rattle.file_records.proofs.Due.{goes-one-way}
+use Rattle.file_refusals.specs.Breaking.{StatesElement}
 use Rattle.file_refusals.specs.Files.{Stand}
 use Rattle.file_refusals.specs.Stated.{ElementIs, LinkIs, States}
+use Rattle.file_refusals.proofs.Elements.{states-fields, stating}
 use Rattle.file_refusals.proofs.Files.{stand-append, stand-once, Ran}
 use Rattle.file_refusals.proofs.Inputs.{head-ran, elements-run-ran, links-run-ran}
 
@@ -84,7 +88,7 @@ module _ (s : List ℕ) where
       go (reached p st m) h k = head-of-links h
 
 module _ (s : List ℕ) (at : ℕ) (stage : Stage) (n : Network) (file : networkFile s ≡ reached at stage n) where
-  elements-stand : (i place : ℕ) (value : Network) → records s (always nothingSeen) (withElement s) i 8 Elements emptyNetwork ≡ reached place Elements value
+  pub elements-stand : (i place : ℕ) (value : Network) → records s (always nothingSeen) (withElement s) i 8 Elements emptyNetwork ≡ reached place Elements value
       → Stand s (word s 4) (word s 6) (Head ∷ replicate i Elements) 0 place
   elements-stand i place value e =
       stand-append s (word s 4) (word s 6) (head-of-file s file)
@@ -122,7 +126,7 @@ module _ (s : List ℕ) (at : ℕ) (stage : Stage) (n : Network) (file : network
         ∙ none
 
   pub file-states : States s n
-  unfolding withElement withLink emptyNetwork elementOf linkOf
+  unfolding withElement withLink emptyNetwork linkOf
   file-states =
       record {
         elements = links .elements-are;
@@ -136,11 +140,11 @@ module _ (s : List ℕ) (at : ℕ) (stage : Stage) (n : Network) (file : network
           form-long = holds .long .form-long;
           cost-long = holds .long .cost-long;
         };
-        element = λ i place lt stand.
+        element = λ i place load capacity flags lt stand x.
             let e = holds .element i (omega (arith, links .elements-are)) in
             let is : e .found .place ≡ place = stand-once s (word s 4) (word s 6) (elements-stand i (e .found .place) (e .found .value) (e .found .before)) stand in
-            subst (λ (a : ℕ). ElementIs n i (word s (a + 4)) (word s (a + 6)) (word s (a + 8))) is
-            (record { load-is = e .load-is; capacity-is = e .capacity-is; flags-is = e .flags-is });
+            let f = states-fields (subst (λ (a : ℕ). StatesElement s a load capacity flags) (sym is) x) in
+            record { load-is = e .load-is ∙ f .0; capacity-is = e .capacity-is ∙ f .1; flags-is = e .flags-is ∙ f .2 };
         no-element = λ i h. record {
           load-is = element-beyond links (λ m. m .load) (λ a. elementOf s a .load) i (λ a m. refl) (λ a m. refl) (zeros 64 i) h;
           capacity-is = element-beyond links (λ m. m .capacity) (λ a. elementOf s a .capacity) i (λ a m. refl) (λ a m. refl) (zeros 64 i) h;
@@ -187,12 +191,24 @@ module _ (s : List ℕ) (at : ℕ) (stage : Stage) (n : Network) (file : network
     same-element : (i : ℕ) → SameElement m i
     same-element i = go (ltb i (word s 4)) refl
       where
+        either-way : {k kind : ℕ} → kind ≡ k → (kind ≡ 2) ⊎ (kind ≡ 7) → (k ≡ 2) ⊎ (k ≡ 7)
+        either-way e (inl h) = inl (sym e ∙ h)
+        either-way e (inr h) = inr (sym e ∙ h)
+
         go : (t : Bool) → ltb i (word s 4) ≡ t → SameElement m i
         go true t =
             let lt = ltb-true i (word s 4) t in
             let found = network-holds s at stage n file .element i (omega (arith, lt, file-states .elements)) .found in
             let stand = elements-stand i (found .place) (found .value) (found .before) in
-            record { load = _; capacity = _; flags = _; one = file-states .element i (found .place) lt stand; other = states .element i (found .place) lt stand }
+            let k = goes-one-way Elements _ _ (found .whole .framed .goes) .0 in
+            let x = stating (either-way (found .whole .framed .kind-is) k) in
+            record {
+              load = x .load;
+              capacity = x .capacity;
+              flags = x .flags;
+              one = file-states .element i (found .place) (x .load) (x .capacity) (x .flags) lt stand (x .states);
+              other = states .element i (found .place) (x .load) (x .capacity) (x .flags) lt stand (x .states);
+            }
         go false t =
             let le = ltb-false i (word s 4) t in
             record { load = 0; capacity = 0; flags = 0; one = file-states .no-element i le; other = states .no-element i le }

@@ -1,4 +1,4 @@
--- Document 01, "Files" and refusals 1 to 12, in its own words: which rules the record that is due at an offset breaks. No test of the reader is cited.
+-- Document 01, "Files" and refusals 1 to 12, with document 02's item 1, in their own words: which rules the record that is due at an offset breaks. No test of the reader is cited.
 -- Assumes nothing.
 use mathlib.Core.Path.{_≡_}
 use mathlib.Core.List.{List}
@@ -10,7 +10,7 @@ use Rattle.network.specs.declared.refusal.Rule.the-variants.{RecordMissing, Kin
 use Rattle.network.specs.Refusals.{Sooner}
 use Rattle.file_stages.specs.declared.Stage.{Stage}
 use Rattle.file_stages.specs.declared.Stage.the-variants.{Head, Elements, Links, End, PlanHead, Steps, PlanEnd, Over}
-use Rattle.file_fields.specs.Fields.{word}
+use Rattle.file_fields.specs.Fields.{word, wideWord}
 use Rattle.file_records.specs.Records.{lengthField, kindField}
 
 -- how many bytes remain at an offset
@@ -21,6 +21,8 @@ remain s at = length s - at
 pub data ComesNext : (stage : Stage) (kind : ℕ) (next : Stage) → Type 0 where
   behind-head : ComesNext Head 1 Elements
   behind-element : ComesNext Elements 2 Elements
+  -- document 02: "Kind 7 .. may stand wherever kind 2 may"
+  behind-wide-element : ComesNext Elements 7 Elements
   behind-link : ComesNext Links 3 Links
   behind-end : ComesNext End 4 PlanHead
   behind-plan-head : ComesNext PlanHead 5 Steps
@@ -38,6 +40,13 @@ pub data KindLength : ℕ → ℕ → Type 0 where
   end : KindLength 4 4
   plan-head : KindLength 5 6
   step : KindLength 6 8
+  -- document 02: "Kind 7 is an element .., length 14"
+  wide-element : KindLength 7 14
+
+-- "Kind 2, element, length 10: own load, capacity, flags"; document 02: "Kind 7 is an element with load and capacity of four bytes each, then flags"
+pub data StatesElement (s : List ℕ) (at : ℕ) : (load capacity flags : ℕ) → Type 0 where
+  narrow : kindField s at ≡ 2 → StatesElement s at (word s (at + 4)) (word s (at + 6)) (word s (at + 8))
+  wide : kindField s at ≡ 7 → StatesElement s at (wideWord s (at + 4)) (wideWord s (at + 8)) (word s (at + 12))
 
 -- "element count E (1 to 64), link count K (0 to 96)"
 pub record InRange (E K : ℕ) : Type 0 where
@@ -63,7 +72,7 @@ BreaksRule s E K at stage RecordCutOff = remain s at < lengthField s at
 -- "5. A network head has E or K outside its range."
 BreaksRule s E K at stage HeadOutOfRange = (kindField s at ≡ 1) × ¬ InRange (word s (at + 4)) (word s (at + 6))
 -- "6. An element's flags exceed 3."
-BreaksRule s E K at stage UnknownFlags = (kindField s at ≡ 2) × (3 < word s (at + 8))
+BreaksRule s E K at stage UnknownFlags = (load : ℕ) × (capacity : ℕ) × (flags : ℕ) × StatesElement s at load capacity flags × (3 < flags)
 -- "7. A link has an end of E or more, or two equal ends."
 BreaksRule s E K at stage BadEnds =
     (kindField s at ≡ 3) × ((E ≤ word s (at + 4)) ⊎ ((E ≤ word s (at + 6)) ⊎ (word s (at + 4) ≡ word s (at + 6))))

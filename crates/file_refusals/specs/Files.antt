@@ -63,3 +63,9 @@ pub data FirstBrokenBoth (s : List ℕ) : Refusal → Type 0 where
 -- the planner's input keeps rules 1 to 13: the network file ends where s ends
 abbrev pub KeepsNetwork : List ℕ → Type 0
 KeepsNetwork s = NetworkStands s (length s)
+
+-- the judge's input keeps rules 1 to 13
+pub record KeepsBoth (s : List ℕ) : Type 0 where
+  pub middle : ℕ
+  pub network : NetworkStands s middle
+  pub plan : PlanStands s middle (length s)

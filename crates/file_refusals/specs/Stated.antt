@@ -9,9 +9,10 @@ use Rattle.network.specs.declared.Network.{Network}
 use Rattle.file_stages.specs.declared.Stage.the-variants.{Head, Elements, Links, PlanHead, Steps}
 use Rattle.file_fields.specs.Fields.{word}
 use Rattle.file_plan.specs.declared.plan.Plan.{Plan}
+use Rattle.file_refusals.specs.Breaking.{StatesElement}
 use Rattle.file_refusals.specs.Files.{Stand, NetworkStands, PlanStands, KeepsNetwork}
 
--- "Kind 2, element, length 10: own load, capacity, flags"
+-- an element has this own load, this capacity and these flags
 pub record ElementIs (n : Network) (i load capacity flags : ℕ) : Type 0 where
   pub load-is : getD (n .load) i 0 ≡ load
   pub capacity-is : getD (n .capacity) i 0 ≡ capacity
@@ -39,8 +40,8 @@ pub record States (s : List ℕ) (n : Network) : Type 0 where
   pub elements : n .elements ≡ word s 4
   pub links : n .links ≡ word s 6
   pub wide : Wide n
-  pub element : (i at : ℕ) → i < word s 4 → Stand s (word s 4) (word s 6) (Head ∷ replicate i Elements) 0 at
-      → ElementIs n i (word s (at + 4)) (word s (at + 6)) (word s (at + 8))
+  pub element : (i at load capacity flags : ℕ) → i < word s 4 → Stand s (word s 4) (word s 6) (Head ∷ replicate i Elements) 0 at
+      → StatesElement s at load capacity flags → ElementIs n i load capacity flags
   pub no-element : (i : ℕ) → word s 4 ≤ i → ElementIs n i 0 0 0
   pub link : (l at : ℕ) → l < word s 6 → Stand s (word s 4) (word s 6) ((Head ∷ replicate (word s 4) Elements) ++ replicate l Links) 0 at
       → LinkIs n l (word s (at + 4)) (word s (at + 6)) (word s (at + 8)) (word s (at + 10))

@@ -1,4 +1,4 @@
--- Document 01, "Files": which record kinds may come at each stage of reading, and the stage after them.
+-- Documents 01 and 02, "Files": which record kinds may come at each stage of reading, and the stage after them.
 -- Internal: what computes; `ComesNext` of `file_refusals` is the paper's table.
 -- Assumes nothing.
 use mathlib.Core.Bool.{Bool, true, false}
@@ -37,16 +37,24 @@ goesTo true s = Go s
 goesTo false s = Refused
 
 -- "A network file is one head, E elements, K links, one end. A plan file is one plan head, its steps, one end."
--- Kinds: 1 network head, 2 element, 3 link, 4 end, 5 plan head, 6 step.
+-- Kinds: 1 network head, 2 element, 3 link, 4 end, 5 plan head, 6 step; document 02: "Kind 7 may stand wherever kind 2 may"
 unfoldable pub nextStage : Stage → ℕ → Next
 nextStage Head k = goesTo (eqb k 1) Elements
-nextStage Elements k = goesTo (eqb k 2) Elements
+nextStage Elements k = pick (eqb k 7) (Go Elements) (goesTo (eqb k 2) Elements)
 nextStage Links k = goesTo (eqb k 3) Links
 nextStage End k = goesTo (eqb k 4) PlanHead
 nextStage PlanHead k = goesTo (eqb k 5) Steps
 nextStage Steps k = goesTo (eqb k 6) Steps
 nextStage PlanEnd k = goesTo (eqb k 4) Over
 nextStage Over k = Refused
+
+-- the kinds that are known; every kind but where what is read is compared with an earlier document's reading
+abbrev pub everyKind : ℕ → Bool
+everyKind k = true
+
+-- the table where only some kinds are known
+abbrev pub nextKnown : (ℕ → Bool) → Stage → ℕ → Next
+nextKnown known stage k = pick (known k) (nextStage stage k) Refused
 
 -- the stage that follows once the last element, link or step is read
 abbrev pub afterLast : Stage → Stage

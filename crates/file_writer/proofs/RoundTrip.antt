@@ -21,8 +21,8 @@ use Rattle.file_fields.specs.Views.{linksSeen}
 use Rattle.file_fields.specs.Fields.{word, lengthOf, fieldRules, planHeadRules, stepRules}
 use Rattle.file_records.specs.Records.{dueAt}
 use Rattle.file_network.specs.Runs.{reached, records, always, asIs}
-use Rattle.file_plan.specs.PlanFiles.{emptyPlan, withStep, stepsOn, planEndOn, planFile}
-use Rattle.file_plan.specs.Inputs.{planInput}
+use Rattle.file_plan.specs.PlanFiles.{emptyPlan, withStep, stepsOn, stepsOnBy, planEndOn, planEndOnBy, planFile, planFileBy}
+use Rattle.file_plan.specs.Inputs.{planInput, planInputBy}
 use Rattle.file_writer.specs.Writing.{stateNumber, planHeadBytes, stepBytes, stepsBytes, endBytes, planBytes, planLength, bufferAfter}
 use Rattle.file_writer.proofs.Files.{head-length, step-length, end-length, steps-length, plan-bytes-length}
 use Rattle.file_writer.proofs.Stands.{Stands, stands-between, stands-left, stands-right, stands-word, number-back}
@@ -219,7 +219,7 @@ module _
         {s : List ℕ} {at : ℕ} →
         Stands s at (planBytes p) →
         planFile s links at ≡ reached (at + planLength p) Over (firstSteps p (p .steps))
-    unfolding planFile stepsOn planEndOn planBytes planLength
+    unfolding planFileBy stepsOnBy planEndOnBy planBytes planLength
     reads-back {s} {at} h =
         let head-and-steps = stands-left (planHeadBytes (p .steps) ++ stepsBytes p (p .steps)) endBytes h in
         let head : Stands s at (planHeadBytes (p .steps)) = stands-left (planHeadBytes (p .steps)) (stepsBytes p (p .steps)) head-and-steps in
@@ -253,7 +253,7 @@ module _
         (pre : List ℕ) →
         planInput (pre ++ planBytes p) links (length pre) ≡
         reached (length pre + planLength p) Over (firstSteps p (p .steps))
-    unfolding planInput
+    unfolding planInputBy
     round-trip-input pre =
         let long : length (pre ++ planBytes p) ≡ length pre + planLength p = simp (length-append, plan-bytes-length) in
         let read : planFile (pre ++ planBytes p) links (length pre) ≡ reached (length pre + planLength p) Over (firstSteps p (p .steps)) =

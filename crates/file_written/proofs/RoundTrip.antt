@@ -2,7 +2,7 @@
 -- Assumes nothing.
 use mathlib.Core.Path.{_≡_, refl, sym, ap, subst, _∙_}
 use mathlib.Core.List.{List, [], _∷_, _++_, append-nil, flatMap, foldl}
-use Prim.Native.Nat.{ℕ, _+_, _≤_}
+use Prim.Native.Nat.{ℕ, _+_, _*_, _/_, _%_, _≤_}
 use native.Mathlib.Nat.{add-zero, zero-add}
 use native.Mathlib.Omega.{arith}
 use lib.ListN.{length, length-append}
@@ -16,7 +16,7 @@ use Rattle.file_stages.specs.declared.Stage.the-variants.{Head, Elements, Links
 use Rattle.file_stages.specs.Stages.{nextStage, afterLast}
 use Rattle.file_fields.specs.declared.Seen.{Seen}
 use Rattle.file_fields.specs.Views.{nothingSeen, networkSeen}
-use Rattle.file_fields.specs.Fields.{word, lengthOf, fieldRules, headRules, elementRules, linkRules}
+use Rattle.file_fields.specs.Fields.{word, lengthOf, fieldRules, headRules, flagsRules, linkRules, wideWord}
 use Rattle.file_records.specs.declared.Found.the-variants.{Record}
 use Rattle.file_records.specs.Records.{dueAt}
 use Rattle.file_records.proofs.Reader.{due-found}
@@ -24,8 +24,8 @@ use Rattle.file_records.proofs.Due.{Framed, due-kept}
 use Rattle.file_records.proofs.SameBytes.{SameFrom}
 use Rattle.file_records.proofs.Alike.{framed-looks, placed, due-alike}
 use Rattle.file_network.specs.Runs.{Reading, reached, readOn, records, always, asIs}
-use Rattle.file_network.specs.NetworkFiles.{elementOf, linkOf, withElement, withLink, endOn, linksOn, elementsOn, networkFile}
-use Rattle.file_network.specs.Inputs.{networkInput}
+use Rattle.file_network.specs.NetworkFiles.{wideElement, elementOf, linkOf, withElement, withLink, endOn, endOnBy, linksOn, linksOnBy, elementsOn, elementsOnBy, networkFile, networkFileBy}
+use Rattle.file_network.specs.Inputs.{networkInput, networkInputBy}
 use Rattle.file_network.proofs.Runs.{records-none, records-suc}
 use Rattle.file_network.proofs.Parts.{headRun}
 use Rattle.file_network.proofs.NetworkAlike.{element-same, link-same}
@@ -42,7 +42,7 @@ abbrev pub IsRecord : (seen : Seen) (stage next : Stage) (r : List ℕ) → Type
 IsRecord seen stage next r = (kind : ℕ) × (dueAt r seen 0 stage ≡ Record kind (length r) next)
 
 module _ {s : List ℕ} {at : ℕ} (r : List ℕ) (there : Stands s at r) where
-  stands-same : SameFrom r s 0 at (length r)
+  pub stands-same : SameFrom r s 0 at (length r)
   stands-same =
       record {
         words = λ i k. rw (zero-add i) (sym (stands-word r there i (omega arith)));
@@ -107,16 +107,31 @@ head-written elements links some few fewer = (
       (rw (number-back elements, number-back links, ne-eqb elements 0 (omega arith), le-ltb 64 elements few, le-ltb 96 links fewer)),
 )
 
-pub element-written : (n : Network) (e : Element) → ElementIn e → Stated (always nothingSeen) Elements elementOf elementBytes n e
-unfolding elementBytes word nextStage lengthOf fieldRules elementRules elementOf
-element-written n e h = (
+-- the two numbers of two bytes of a number of four give it back
+wide-back : (n : ℕ) → n % 65536 + 65536 * (n / 65536) ≡ n
+wide-back n = omega arith
+
+pub flags-written : (n : Network) (e : Element) → e .flags ≤ 3 → Stated (always nothingSeen) Elements elementOf elementBytes n e
+unfolding elementBytes word wideWord nextStage lengthOf fieldRules flagsRules elementOf wideElement
+flags-written n e h = (
   (
-    2,
-    due-found (elementBytes e) nothingSeen 0 2 10 Elements Elements refl refl (omega arith) (omega arith) refl refl
-        (rw (number-back (e .flags), le-ltb 3 (e .flags) (h .flags-in))),
+    7,
+    due-found (elementBytes e) nothingSeen 0 7 14 Elements Elements refl refl (omega arith) (omega arith) refl refl
+        (rw (number-back (e .flags), le-ltb 3 (e .flags) h)),
   ),
-  rw (number-back (e .load), number-back (e .capacity), number-back (e .flags)),
+  rw (
+    number-back (e .load % 65536),
+    number-back (e .load / 65536),
+    wide-back (e .load),
+    number-back (e .capacity % 65536),
+    number-back (e .capacity / 65536),
+    wide-back (e .capacity),
+    number-back (e .flags),
+  ),
 )
+
+pub element-written : (n : Network) (e : Element) → ElementIn e → Stated (always nothingSeen) Elements elementOf elementBytes n e
+element-written n e h = flags-written n e (h .flags-in)
 
 -- a link's rules ask of what was read how many elements it has
 pub link-written : (n : Network) (l : Link) → LinkIn (n .elements) l → Stated networkSeen Links linkOf linkBytes n l
@@ -169,7 +184,7 @@ module _ (es : List Element) (ls : List Link) (some : 1 ≤ length es) (few : le
 
   -- wherever their file stands at the front
   file-stands : {s : List ℕ} → Stands s 0 file → networkFile s ≡ reached (length file) PlanHead (networkOf es ls)
-  unfolding networkBytes networkFile elementsOn linksOn endOn networkOf emptyNetwork withElement withLink headBytes endBytes
+  unfolding networkBytes networkFileBy elementsOnBy linksOnBy endOnBy networkOf emptyNetwork withElement withLink headBytes endBytes
   file-stands {s} h =
       let head = headBytes (length es) (length ls) in
       let xs = flatMap elementBytes es in
@@ -211,7 +226,7 @@ module _ (es : List Element) (ls : List Link) (some : 1 ≤ length es) (few : le
 
   -- alone: it is accepted by rules 1 to 13, as the network that they make, and ends at its length
   pub round-trip : networkInput file ≡ reached (length file) PlanHead (networkOf es ls)
-  unfolding networkInput
+  unfolding networkInputBy
   round-trip =
       let read : networkFile file ≡ reached (length file) PlanHead (networkOf es ls) = rw append-nil at (file-read []) in
       rw (read, le-ltb (length file) (length file) (omega arith))

@@ -3,7 +3,7 @@
 use mathlib.Core.Path.{_≡_, ap}
 use mathlib.Core.List.{List, [], _∷_, _++_, flatMap}
 use mathlib.Core.Logic.{_↔_}
-use Prim.Native.Nat.{ℕ, _+_, _<_, _≤_}
+use Prim.Native.Nat.{ℕ, _/_, _%_, _^_, _<_, _≤_}
 use native.Mathlib.Omega.{arith}
 use lib.ListN.{length, getD}
 use Rattle.network.specs.declared.Element.{Element}
@@ -21,7 +21,7 @@ use Rattle.file_writer.specs.Writing.{number, endBytes}
 use Rattle.file_refusals.specs.Stated.{States, NetworkOf}
 use Rattle.file_refusals.proofs.Stated.{file-states}
 use Rattle.file_refusals.proofs.Reading.{stated-read, file-formed, network-read}
-use Rattle.file_written.specs.NetworkBytes.{headBytes, elementBytes, linkBytes, networkBytes, elementIn, linkIn, numbered, networkFileOf, Tidy, Narrow}
+use Rattle.file_written.specs.NetworkBytes.{headBytes, elementBytes, linkBytes, networkBytes, elementIn, linkIn, numbered, networkFileOf, Tidy}
 use Rattle.file_written.proofs.Each.{Each, each-as, each-append, each-flat, each-at, each-numbered, numbered-length}
 use Rattle.file_written.proofs.OfNetwork.{link-kept, network-written}
 
@@ -44,10 +44,11 @@ head-bytes : (elements links : ℕ) → elements ≤ 64 → links ≤ 96 → Eac
 unfolding headBytes flatMap
 head-bytes elements links few fewer = words-bytes (8 ∷ 1 ∷ elements ∷ links ∷ []) (omega arith, (omega arith, (omega arith, (omega arith, tt))))
 
-element-bytes : (e : Element) → e .load < 65536 → e .capacity < 65536 → e .flags ≤ 3 → Each Byte (elementBytes e)
+element-bytes : (e : Element) → e .load < 2 ^ 32 → e .capacity < 2 ^ 32 → e .flags ≤ 3 → Each Byte (elementBytes e)
 unfolding elementBytes flatMap
 element-bytes e load capacity flags =
-    words-bytes (10 ∷ 2 ∷ e .load ∷ e .capacity ∷ e .flags ∷ []) (omega arith, (omega arith, (load, (capacity, (omega arith, tt)))))
+    words-bytes (14 ∷ 7 ∷ e .load % 65536 ∷ e .load / 65536 ∷ e .capacity % 65536 ∷ e .capacity / 65536 ∷ e .flags ∷ [])
+    (omega arith, (omega arith, (omega arith, (omega arith, (omega arith, (omega arith, (omega arith, tt)))))))
 
 link-bytes : (elements : ℕ) (l : Link) → elements ≤ 64 → LinkIn elements l → Each Byte (linkBytes l)
 unfolding linkBytes flatMap
@@ -59,10 +60,10 @@ end-bytes : Each Byte endBytes
 unfolding endBytes flatMap
 end-bytes = words-bytes (4 ∷ 4 ∷ []) (omega arith, (omega arith, tt))
 
--- and is bytes, where kind 2 has room for its loads and capacities
-pub bytes-written : (n : Network) → WellFormed n → Narrow n → (i : ℕ) → getD (networkFileOf n) i 0 < 256
+-- and is bytes
+pub bytes-written : (n : Network) → WellFormed n → (i : ℕ) → getD (networkFileOf n) i 0 < 256
 unfolding networkFileOf networkBytes
-bytes-written n w narrow =
+bytes-written n w =
     each-at Byte 0 (omega arith) (head ++ xs ++ ys ++ endBytes)
     (each-append Byte (head ++ xs ++ ys) endBytes
     (each-append Byte (head ++ xs) ys
@@ -72,7 +73,7 @@ bytes-written n w narrow =
     (each-flat Byte elementBytes es
     (each-numbered (λ e. Each Byte (elementBytes e)) (elementIn n) 0 (n .elements)
     (λ i _ lt.
-    element-bytes (elementIn n i) (narrow .load-in i (omega arith)) (narrow .capacity-in i (omega arith)) (w .flags-in i (omega arith))))))
+    element-bytes (elementIn n i) (w .load-in i (omega arith)) (w .capacity-in i (omega arith)) (w .flags-in i (omega arith))))))
     (each-flat Byte linkBytes ls
     (each-numbered (λ l. Each Byte (linkBytes l)) (linkIn n) 0 (n .links)
     (λ l _ lt. link-bytes (n .elements) (linkIn n l) (w .elements-fit) (link-kept n w l (omega arith))))))
@@ -106,24 +107,13 @@ states-tidy s n x =
 pub network-tidy : (s : List ℕ) (at : ℕ) (stage : Stage) (n : Network) → networkFile s ≡ reached at stage n → Tidy n
 network-tidy s at stage n h = states-tidy s n (file-states s at stage n h)
 
--- and so has what a file states, and numbers of two bytes
-module _ (s : List ℕ) (n : Network) (file : NetworkOf s n) where
-  pub stated-tidy : Tidy n
-  stated-tidy = states-tidy s n (file .states)
+-- and so has what a file states
+pub stated-tidy : (s : List ℕ) (n : Network) → NetworkOf s n → Tidy n
+stated-tidy s n file = states-tidy s n (file .states)
 
-  pub stated-narrow : ((i : ℕ) → getD s i 0 < 256) → Narrow n
-  unfolding elementOf
-  stated-narrow bytes =
-      let r = stated-read s n file in
-      let holds = network-holds s (r .0) (r .1) n (network-input-size s (r .0) (r .1) n (r .2) .0) in
-      record {
-        load-in = λ i lt. rw (holds .element i lt .load-is) (word-bound s bytes (holds .element i lt .found .place + 4));
-        capacity-in = λ i lt. rw (holds .element i lt .capacity-is) (word-bound s bytes (holds .element i lt .found .place + 6));
-      }
-
--- a network is what a file of bytes states exactly where it is well formed, has zeros behind its counts and numbers of two bytes
-pub files-state : (n : Network) → ((s : List ℕ) × ((i : ℕ) → getD s i 0 < 256) × NetworkOf s n) ↔ (WellFormed n × Tidy n × Narrow n)
+-- a network is what a file of bytes states exactly where it is well formed and has zeros behind its counts
+pub files-state : (n : Network) → ((s : List ℕ) × ((i : ℕ) → getD s i 0 < 256) × NetworkOf s n) ↔ (WellFormed n × Tidy n)
 files-state n = (
-  λ x. (file-formed (x .0) (x .1) n (x .2), stated-tidy (x .0) n (x .2), stated-narrow (x .0) n (x .2) (x .1)),
-  λ w. (networkFileOf n, bytes-written n (w .0) (w .2), network-file n (w .0) (w .1)),
+  λ x. (file-formed (x .0) (x .1) n (x .2), stated-tidy (x .0) n (x .2)),
+  λ w. (networkFileOf n, bytes-written n (w .0), network-file n (w .0) (w .1)),
 )

@@ -1,1 +1,2 @@
 pub mod NetworkBytes
+pub mod Rewriting

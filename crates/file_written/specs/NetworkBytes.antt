@@ -1,8 +1,8 @@
--- Document 01, the network file as bytes: the file of a list of elements and a list of links with the network that they make, and the file of a network.
--- Internal: no promise to a user is said by it yet. A kind more is one case more of `elementBytes` or `linkBytes`.
+-- Documents 01 and 02, the network file as bytes: the file of a list of elements and a list of links with the network that they make, and the file of a network.
+-- Internal but for the records of elements, by which `Rewriting` says what is rewritten. Elements are written as kind 7, which has room for each.
 -- Assumes nothing.
 use mathlib.Core.List.{List, [], _∷_, _++_, flatMap, foldl}
-use Prim.Native.Nat.{ℕ, zero, suc, _<_, _≤_}
+use Prim.Native.Nat.{ℕ, zero, suc, _/_, _%_, _≤_}
 use lib.ListN.{length, getD}
 use Rattle.network.specs.declared.Element.{Element}
 use Rattle.network.specs.declared.Link.{Link}
@@ -17,9 +17,13 @@ use Rattle.file_refusals.specs.Stated.{ElementIs, LinkIs}
 unfoldable pub headBytes : ℕ → ℕ → List ℕ
 headBytes elements links = number 8 ++ number 1 ++ number elements ++ number links
 
--- "Kind 2, element, length 10: own load, capacity, flags"
+-- document 02: "four bytes", low byte first
+abbrev pub wideNumber : ℕ → List ℕ
+wideNumber n = number (n % 65536) ++ number (n / 65536)
+
+-- document 02: "Kind 7 is an element with load and capacity of four bytes each, then flags, length 14"
 unfoldable pub elementBytes : Element → List ℕ
-elementBytes e = number 10 ++ number 2 ++ number (e .load) ++ number (e .capacity) ++ number (e .flags)
+elementBytes e = number 14 ++ number 7 ++ wideNumber (e .load) ++ wideNumber (e .capacity) ++ number (e .flags)
 
 -- "Kind 3, link, length 12: two different elements, form .., cost"
 unfoldable pub linkBytes : Link → List ℕ
@@ -56,8 +60,3 @@ networkFileOf n = networkBytes (numbered (elementIn n) 0 (n .elements)) (numbere
 pub record Tidy (n : Network) : Type 0 where
   pub no-element : (i : ℕ) → n .elements ≤ i → ElementIs n i 0 0 0
   pub no-link : (l : ℕ) → n .links ≤ l → LinkIs n l 0 0 0 0
-
--- "Numbers are unsigned, two bytes": the loads and capacities that kind 2 has room for
-pub record Narrow (n : Network) : Type 0 where
-  pub load-in : (i : ℕ) → i < n .elements → getD (n .load) i 0 < 65536
-  pub capacity-in : (i : ℕ) → i < n .elements → getD (n .capacity) i 0 < 65536

@@ -34,7 +34,7 @@ use Rattle.judge_marks.proofs.Marking.{mark-marked, marked-mark}
 use Rattle.judge_marks.proofs.Marking as Marking
 use Rattle.judge_marks.specs.Marks as Marks·
 use Rattle.judge_line.specs.MarkLines.{markLine}
-use Rattle.judge.specs.Judging.{AcceptedPlan, FirstRuleBoth, in-bytes, in-network, JudgeReply, markAccepted, markRead, markOfRead, markFor}
+use Rattle.judge.specs.Judging.{AcceptedPlan, FirstRuleBoth, in-bytes, in-network, JudgeReply, markAccepted, markRead, markOfRead, markFor, markForBy}
 use Rattle.judge.specs.Judging as Judging
 use Rattle.judge.proofs.Read.{BothFormed, both-formed}
 
@@ -57,7 +57,7 @@ module _ (s : List ℕ) (bytes : Bytes s) where
 
     -- an accepted input is marked by its plan
     pub accepted-mark : markFor s ≡ markOf (netOf n) q
-    unfolding markFor markOfRead markRead markAccepted
+    unfolding markForBy markOfRead markRead markAccepted
     accepted-mark =
         ap markOfRead (both-read s n (a .plan) .1 (a .files))
         ∙ ap (markAccepted n (a .plan)) (sym (answered-network n plan-network Accepted (a .kept)))
@@ -85,7 +85,7 @@ module _ (s : List ℕ) (bytes : Bytes s) where
 
   -- what breaks a rule is refused by its first broken rule, with its place
   pub first-is : (f : Refusal) → FirstRuleBoth s f → Mark·.Refused f ≡ markFor s
-  unfolding markFor markOfRead markRead markAccepted
+  unfolding markForBy markOfRead markRead markAccepted
   first-is f (in-bytes b) = ap (markRead (bothRead (bothInput s) .net) (bothRead (bothInput s) .plan)) (sym (both-unread s f .1 b))
   first-is f (in-network n p files h) =
       ap (markAccepted n p) (answered-network n (files-formed n p files .net) (Refused f) h) ∙ sym (ap markOfRead (both-read s n p .1 files))
@@ -112,7 +112,7 @@ module _ (s : List ℕ) (bytes : Bytes s) where
 
   -- what `mark_of` answers
   judged : Judged s (markFor s)
-  unfolding markFor markOfRead
+  unfolding markForBy markOfRead
   judged = judged-read (bothRead (bothInput s)) refl (bothRead (bothInput s) .answer) refl
 
   -- the theorem, for its line
@@ -140,7 +140,7 @@ module _ (s : List ℕ) (bytes : Bytes s) where
           same : f′ ≡ f
           same = cc
 
--- "the first 4,096 bytes decide"
+-- "the first 8,192 bytes decide"
 pub mark-decided : (s : List ℕ) → markFor (take decides s) ≡ markFor s
-unfolding markFor
+unfolding markForBy
 mark-decided s = ap (λ (o : Reading (Network × Plan)). markOfRead (bothRead o)) (both-decided decides (omega arith) s)

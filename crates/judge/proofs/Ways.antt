@@ -26,7 +26,7 @@ use Rattle.judge_marks.specs.Marks.{markOf}
 use Rattle.texts.specs.Texts.{inFront, Counted}
 use Rattle.texts.proofs.Pieces.{front-counted, text-in-front}
 use Rattle.judge_line.specs.MarkLines.{markLine}
-use Rattle.judge.specs.Judging.{JudgeReply, markAccepted, markRead, markOfRead, markFor}
+use Rattle.judge.specs.Judging.{JudgeReply, markAccepted, markRead, markOfRead, markFor, markForBy}
 use Rattle.judge.proofs.Marking.{judge-replies}
 use Rattle.judge.proofs.Read.{both-formed}
 
@@ -38,7 +38,7 @@ module _ (s : List ℕ) (bytes : Bytes s) (read : BothRead) (is : read ≡ bothR
   returned m e = (e, subst (λ (x : Mark). JudgeReply s (markLine x)) (sym e) (judge-replies s bytes))
 
   pub unread-mark : (f : Refusal) → read .answer ≡ Refused f → Mark·.Refused f ≡ markFor s
-  unfolding markFor markOfRead markRead
+  unfolding markForBy markOfRead markRead
   unread-mark f e = ap (markRead (read .net) (read .plan)) (sym e) ∙ ap markOfRead is
 
   module _ (ok : read .answer ≡ Accepted) (a : Admitted) (start : a ≡ handedOut (read .net) (answerTo (read .net))) where
@@ -46,7 +46,7 @@ module _ (s : List ℕ) (bytes : Bytes s) (read : BothRead) (is : read ≡ bothR
     answer-is = ap (λ (x : Admitted). x .answer) start ∙ handed-answer (read .net) (answerTo (read .net))
 
     accepted-mark : markAccepted (read .net) (read .plan) (a .answer) ≡ markFor s
-    unfolding markFor markOfRead markRead
+    unfolding markForBy markOfRead markRead
     accepted-mark =
         ap (markAccepted (read .net) (read .plan)) answer-is ∙ ap (markRead (read .net) (read .plan)) (sym ok) ∙ ap markOfRead is
 

@@ -1,6 +1,7 @@
 -- Document 01, the judge's reply to any sequence of bytes: the line of the mark of a network file with a plan file directly behind it.
 -- Assumes nothing.
 use mathlib.Core.Path.{_≡_}
+use mathlib.Core.Bool.{Bool}
 use mathlib.Core.List.{List}
 use Prim.Native.Nat.{ℕ}
 use Rattle.network.specs.declared.Network.{Network}
@@ -9,7 +10,8 @@ use Rattle.network.specs.declared.refusal.Answer.{Answer}
 use Rattle.network.specs.declared.refusal.Answer.the-variants.{Accepted, Refused}
 use Rattle.file_plan.specs.declared.plan.Plan.{Plan}
 use Rattle.file_both.specs.declared.BothRead.{BothRead}
-use Rattle.file_both.specs.Inputs.{bothInput, bothRead}
+use Rattle.file_stages.specs.Stages.{everyKind}
+use Rattle.file_both.specs.Inputs.{bothInputBy, bothRead}
 use Rattle.file_refusals.specs.Files.{FirstBrokenBoth}
 use Rattle.file_refusals.specs.Stated.{BothOf}
 use Rattle.feeding.specs.Networks.{netOf}
@@ -56,6 +58,9 @@ markRead n p (Refused f) = Mark·.Refused f
 unfoldable pub markOfRead : BothRead → Mark
 markOfRead r = markRead (r .net) (r .plan) (r .answer)
 
--- what the bytes s are marked
-unfoldable pub markFor : List ℕ → Mark
-markFor s = markOfRead (bothRead (bothInput s))
+-- what the bytes s are marked, by the kinds that are known, and where every kind is
+unfoldable pub markForBy : (ℕ → Bool) → List ℕ → Mark
+markForBy known s = markOfRead (bothRead (bothInputBy known s))
+
+abbrev pub markFor : List ℕ → Mark
+markFor = markForBy everyKind

@@ -20,7 +20,7 @@ use Rattle.plan_found.specs.declared.Found.{Found}
 use Rattle.plan_found.specs.Finding.{FoundBy}
 use Rattle.plan_outcome.specs.declared.Reply.the-variants as Reply·
 use Rattle.plan_outcome.specs.declared.Outcome.{Outcome}
-use Rattle.plan_outcome.specs.Outcomes.{outcomeFor, outcomeOf, outcomeGiven, outcomeAnswered, outcomeRead, outcome}
+use Rattle.plan_outcome.specs.Outcomes.{outcomeFor, outcomeOf, outcomeGiven, outcomeAnswered, outcomeRead, outcome, outcomeBy}
 use Rattle.plan_outcome.proofs.Solving.{given-found}
 
 -- the plan over the operable switches of an accepted network
@@ -35,11 +35,11 @@ solved st b f found = given-found (st .net) (costOf (netOf (st .net))) (planning
 
 module _ (s : List ℕ) (read : Admitted) (is : read ≡ acceptedRead (networkRead (networkInput s))) where
   pub accepted-outcome : read .answer ≡ Answer·.Accepted → outcomeOf (read .start .net) ≡ outcome s
-  unfolding outcome outcomeRead outcomeAnswered
+  unfolding outcomeBy outcomeRead outcomeAnswered
   accepted-outcome e = ap (outcomeAnswered (read .start .net)) (sym e) ∙ ap outcomeRead is
 
   pub refusal-outcome : (f : Refusal) → read .answer ≡ Answer·.Refused f → (plan : Plan) → plan ≡ emptyPlan
       → _≡_ {A = Outcome} (record { reply = Reply·.Refused f; plan = plan }) (outcome s)
-  unfolding outcome outcomeRead outcomeAnswered
+  unfolding outcomeBy outcomeRead outcomeAnswered
   refusal-outcome f e plan g =
       ap (λ (p : Plan). record { reply = Reply·.Refused f; plan = p }) g ∙ ap (outcomeAnswered (read .start .net)) (sym e) ∙ ap outcomeRead is

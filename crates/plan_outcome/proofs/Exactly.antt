@@ -27,7 +27,7 @@ use Rattle.plan_sums.specs.declared.Sums.{Sums}
 use Rattle.plan_outcome.specs.declared.Planned.{Planned}
 use Rattle.plan_outcome.specs.declared.Reply.{Reply}
 use Rattle.plan_outcome.specs.declared.Reply.the-variants as Reply·
-use Rattle.plan_outcome.specs.Outcomes.{outcomeRead, outcomeAnswered, outcome}
+use Rattle.plan_outcome.specs.Outcomes.{outcomeRead, outcomeAnswered, outcome, outcomeBy}
 use Rattle.plan_outcome.proofs.Promises.{outcome-kept}
 
 -- ---- exactly which outcome
@@ -61,15 +61,15 @@ module _ (s : List ℕ) (bytes : Bytes s) where
 
   -- demand 1: what breaks a rule is refused by its first broken rule, with its place, and nothing else is refused
   pub refused-exactly : (f : Refusal) → (FirstRule s f → outcome s .reply ≡ Reply·.Refused f) × (outcome s .reply ≡ Reply·.Refused f → FirstRule s f)
-  unfolding outcome outcomeRead outcomeAnswered startWith
+  unfolding outcomeBy outcomeRead outcomeAnswered startWith
   refused-exactly f = (
     λ r. ap (λ (x : Admitted). outcomeRead x .reply) (sym (admission-only s bytes _ (Admissions.refused r))),
     λ e. outcome-kept s bytes .refused f e,
   )
 
--- "the first 4,096 bytes decide"
+-- "the first 8,192 bytes decide"
 pub outcome-decided : (s : List ℕ) → outcome (take decides s) ≡ outcome s
-unfolding outcome
+unfolding outcomeBy
 outcome-decided s = ap (λ (o : Runs.Reading Network). outcomeRead (acceptedRead (networkRead o))) (network-decided decides (omega arith) s)
 
 -- ---- one promised plan

@@ -32,7 +32,7 @@ use Rattle.plan_sums.proofs.Loads.{sums-in}
 use Rattle.plan_outcome.specs.declared.Planned.{Planned}
 use Rattle.plan_outcome.specs.declared.Reply.{Reply}
 use Rattle.plan_outcome.specs.declared.Reply.the-variants as Reply·
-use Rattle.plan_outcome.specs.Outcomes.{outcomeWith, outcomeWithout, outcomeFrom, outcomeFor, outcomeOf, outcomeAnswered, outcomeRead, outcome}
+use Rattle.plan_outcome.specs.Outcomes.{outcomeWith, outcomeWithout, outcomeFrom, outcomeFor, outcomeOf, outcomeAnswered, outcomeRead, outcome, outcomeBy}
 use Rattle.plan_outcome.specs.declared.Outcome.{Outcome}
 
 -- ---- what an outcome promises, in the paper's terms: the cases of the replies that `planner` promises
@@ -164,5 +164,5 @@ module _ (s : List ℕ) (bytes : Bytes s) where
       accepted-kept n (starts .0) (starts .1) s a
 
   pub outcome-kept : OutcomeKept s (outcome s)
-  unfolding outcome
+  unfolding outcomeBy
   outcome-kept = read-kept (acceptedRead (networkRead (networkInput s))) (input-admission s bytes)

@@ -1,7 +1,7 @@
 -- Document 01, what any sequence of bytes is answered: the plan with its cost and the loads after it, none, or a refusal.
 -- Internal: what computes; `PlannerReply` and `LibraryReply` of `planner` say which answers the paper asks for.
 -- Assumes nothing.
-use mathlib.Core.Bool.{true, false}
+use mathlib.Core.Bool.{Bool, true, false}
 use mathlib.Core.List.{List}
 use Prim.Native.Nat.{ℕ}
 use lib.Dec.{ltb}
@@ -9,7 +9,8 @@ use lib.ListN.{length}
 use Rattle.network.specs.declared.Network.{Network}
 use Rattle.network.specs.declared.refusal.Answer.{Answer}
 use Rattle.network.specs.declared.refusal.Answer.the-variants as Answer·
-use Rattle.file_network.specs.Inputs.{networkInput, networkRead}
+use Rattle.file_stages.specs.Stages.{everyKind}
+use Rattle.file_network.specs.Inputs.{networkInputBy, networkRead}
 use Rattle.feeding.specs.Networks.{Net, netOf}
 use Rattle.feeding.specs.Parts.{closedIn}
 use Rattle.feeding.specs.Plans.{Step, run}
@@ -67,6 +68,9 @@ outcomeAnswered n (Answer·.Refused f) = record { reply = Reply·.Refused f; pla
 unfoldable pub outcomeRead : Admitted → Outcome
 outcomeRead r = outcomeAnswered (r .start .net) (r .answer)
 
--- what the bytes s are answered
-unfoldable pub outcome : List ℕ → Outcome
-outcome s = outcomeRead (acceptedRead (networkRead (networkInput s)))
+-- what the bytes s are answered, by the kinds that are known, and where every kind is
+unfoldable pub outcomeBy : (ℕ → Bool) → List ℕ → Outcome
+outcomeBy known s = outcomeRead (acceptedRead (networkRead (networkInputBy known s)))
+
+abbrev pub outcome : List ℕ → Outcome
+outcome = outcomeBy everyKind

@@ -4,12 +4,12 @@ use mathlib.Core.Path.{_≡_, refl}
 use mathlib.Core.List.{map}
 use Rattle.network.specs.Networks.{emptyNetwork}
 use Rattle.file_stages.specs.Stages.{nextStage}
-use Rattle.file_fields.specs.Fields.{word, lengthOf, headRules, elementRules, linkRules, planHeadRules, stepRules, fieldRules}
+use Rattle.file_fields.specs.Fields.{word, lengthOf, headRules, flagsRules, linkRules, planHeadRules, stepRules, fieldRules}
 use Rattle.file_fields.specs.Views.{nothingSeen, networkSeen, linksSeen}
-use Rattle.file_records.specs.Records.{frameRules, recordRules, dueAt}
-use Rattle.file_network.specs.Runs.{records}
-use Rattle.file_network.specs.NetworkFiles.{elementOf, linkOf, withElement, withLink, endOn, linksOn, elementsOn, networkFile}
-use Rattle.file_network.specs.Inputs.{networkInput, networkRead}
+use Rattle.file_records.specs.Records.{frameRulesBy, recordRulesBy, dueBy}
+use Rattle.file_network.specs.Runs.{recordsBy}
+use Rattle.file_network.specs.NetworkFiles.{narrowElement, elementOf, linkOf, withElement, withLink, endOnBy, linksOnBy, elementsOnBy, networkFileBy}
+use Rattle.file_network.specs.Inputs.{networkInputBy, networkRead}
 use Rattle.feeding.specs.Below.{sumTo, allTo, anyTo, leastTo, lowestFrom, lowest, those, tabulate}
 use Rattle.feeding.specs.Networks.{gridOf, netOf}
 use Rattle.feeding.specs.Parts.{touches, far, relabel, merge, link, labels, label, joined?, sound?, live?}
@@ -22,30 +22,30 @@ use Rattle.feeding_acceptance.specs.Reading.{unadmitted, handedOut, acceptedFro
 use Rattle.feeding_start.specs.Starting.{startWith}
 use Rattle.plan_problem.specs.Choosing.{worksBy, firstIf, noDearer, better, best, plannedBy, printedPlan}
 use Rattle.plan_sums.specs.Sums.{sumsAfter}
-use Rattle.file_plan.specs.PlanFiles.{emptyPlan, withStep, planEndOn, stepsOn, planFile}
-use Rattle.file_plan.specs.Inputs.{planInput}
-use Rattle.file_both.specs.Inputs.{planBehind, bothInput, bothRead}
+use Rattle.file_plan.specs.PlanFiles.{emptyPlan, withStep, planEndOnBy, stepsOnBy, planFileBy}
+use Rattle.file_plan.specs.Inputs.{planInputBy}
+use Rattle.file_both.specs.Inputs.{planBehindBy, bothInputBy, bothRead}
 use Rattle.plan_form.specs.Printing.{withOne, planWith, stepsTo, stepsOf}
 use Rattle.file_writer.specs.Writing.{planHeadBytes, stepBytes, endBytes}
 use Rattle.texts.specs.Texts.{digits, decimal, field, lineOf, refusedLine}
 use Rattle.plan_lines.specs.Lines.{planLine, stepLine, stepLines, loadLine, textOf, replyText, tailLines, planLines, noneLines}
-use Rattle.plan_outcome.specs.Outcomes.{outcomeWith, outcomeWithout, outcomeFrom, outcomeFor, outcomeAnswered, outcomeRead, outcome}
+use Rattle.plan_outcome.specs.Outcomes.{outcomeWith, outcomeWithout, outcomeFrom, outcomeFor, outcomeAnswered, outcomeRead, outcomeBy}
 use Rattle.planner.specs.Replies.{linesWith, linesOf}
 use Rattle.judge_marks.specs.Marks.{examined, firstBad, stepExamined, stepsExamined, darkPlace, scoredBy, markAt, markAfter, markBy, costIn, cheapestUnder, markUnder}
 use Rattle.judge_line.specs.MarkLines.{markLine}
-use Rattle.judge.specs.Judging.{markAccepted, markRead, markOfRead, markFor}
+use Rattle.judge.specs.Judging.{markAccepted, markRead, markOfRead, markForBy}
 use Rattle.starred.specs.Tables.{head, element, joins, networkB, networkD, noSteps, closing, text, prints, plans, marks, cases}
 
--- the table is computed whole: the line names every definition from the reader of records to the printed lines
+-- the table is computed whole: the line names every definition from the reader of recordsBy to the printed lines
 pub tried : map (λ c. prints (c .program) (c .input)) cases ≡ map (λ c. c .printed) cases
-unfolding emptyNetwork nextStage word lengthOf frameRules headRules elementRules linkRules planHeadRules stepRules fieldRules nothingSeen networkSeen linksSeen recordRules
-    dueAt records elementOf linkOf withElement withLink endOn linksOn elementsOn networkFile networkInput networkRead sumTo allTo anyTo leastTo lowestFrom lowest
+unfolding emptyNetwork nextStage word lengthOf frameRulesBy headRules flagsRules linkRules planHeadRules stepRules fieldRules nothingSeen networkSeen linksSeen recordRulesBy
+    dueBy recordsBy narrowElement elementOf linkOf withElement withLink endOnBy linksOnBy elementsOnBy networkFileBy networkInputBy networkRead sumTo allTo anyTo leastTo lowestFrom lowest
     those tabulate gridOf netOf touches far relabel merge link labels label joined? sound? live? leads elementLoad above elementOver
     lowestOver loopAt looped? paired? faultLive? treePlace pairPlace faultPlace safe? spoiled? clean restorable? waits? operable? operablesBy
     restored? fedLoad darkLoad lostLoad put run costOf sweep printedForm flip setCost brokenAt safety limited andThen acceptanceBy unadmitted handedOut startWith
     acceptedFrom acceptedRead worksBy firstIf noDearer better best plannedBy printedPlan sumsAfter emptyPlan withOne planWith endBytes digits decimal field planLine
     stepLine stepLines loadLine textOf replyText tailLines planLines noneLines refusedLine outcomeWith outcomeWithout outcomeFrom outcomeFor outcomeAnswered outcomeRead
-    outcome linesWith linesOf withStep planEndOn stepsOn planFile planInput planBehind bothInput bothRead stepsTo stepsOf examined firstBad
+    outcomeBy linesWith linesOf withStep planEndOnBy stepsOnBy planFileBy planInputBy planBehindBy bothInputBy bothRead stepsTo stepsOf examined firstBad
     stepExamined stepsExamined darkPlace scoredBy markAt markAfter markBy costIn cheapestUnder markUnder lineOf markLine markAccepted markRead markOfRead
-    markFor planHeadBytes stepBytes head element joins networkB networkD noSteps closing text prints plans marks cases
+    markForBy planHeadBytes stepBytes head element joins networkB networkD noSteps closing text prints plans marks cases
 tried = refl

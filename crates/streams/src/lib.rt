@@ -8,8 +8,8 @@ ghost use lib.ListN.{length, take};
 ghost use Rattle.file_network.specs.Deciding.{decides};
 ghost use Rattle.streams.specs.Streams.{inputAfter, Held, Grown, Ended};
 
-// "the first 4,096 bytes decide"; `input_buffer` ties this number to the definition `decides`
-pub const DECIDING_BYTES: usize = 4096;
+// "the first 8,192 bytes decide"; `input_buffer` ties this number to the definition `decides`
+pub const DECIDING_BYTES: usize = 8192;
 
 // How far an input was read: so many bytes stand in front of the buffer and more may come, or they are all, or a read failed.
 pub enum Input {

@@ -16,7 +16,6 @@ use Rattle.file_stages.specs.declared.Stage.{Stage}
 use Rattle.file_records.specs.declared.Found.the-variants as Found·
 use Rattle.file_fields.specs.declared.Seen.{Seen}
 use Rattle.file_records.specs.Records.{kindField, lengthField, dueAt}
-use Rattle.file_network.specs.Deciding.{decides}
 use Rattle.file_network.specs.Inputs.{networkInput, networkRead}
 use Rattle.file_plan.specs.declared.plan.Plan.{Plan}
 use Rattle.file_plan.specs.PlanFiles.{emptyPlan}
@@ -26,11 +25,9 @@ use Rattle.texts.specs.Texts.{refusedLine, inFront}
 use Rattle.plan_outcome.specs.declared.Reply.{Reply}
 use Rattle.plan_outcome.specs.declared.Reply.the-variants as Reply·
 use Rattle.plan_outcome.specs.Outcomes.{outcome}
-use Rattle.plan_outcome.proofs.Exactly.{outcome-decided}
-use Rattle.planner.specs.Replies.{linesOf, replyFor, bufferFor}
+use Rattle.planner.specs.Replies.{replyFor, bufferFor}
 use Rattle.planner.proofs.Promises as Promises
-use Rattle.judge_line.specs.MarkLines.{markLine}
-use Rattle.judge.proofs.Marking.{mark-decided, judge-replies}
+use Rattle.judge.proofs.Marking.{judge-replies}
 use Rattle.feeding_acceptance.proofs.Promises.{network-once, first-rule-once, accepted-unrefused}
 use Rattle.file_refusals.specs.Breaking.{BreaksFirst, Keeps, ComesNext}
 use Rattle.file_refusals.specs.Files.{FirstBroken, FirstBrokenBoth}
@@ -96,19 +93,6 @@ module _ (s : List ℕ) where
   pub record-found : (seen : Seen) (at : ℕ) (stage : Stage) (kind long : ℕ) (next : Stage) → (dueAt s seen at stage ≡ Found·.Record kind long next)
       ↔ (Keeps s (seen .elements) (seen .links) at stage × (kind ≡ kindField s at) × (long ≡ lengthField s at) × ComesNext stage kind next)
   record-found seen at stage = Record.record-found s (seen .elements) (seen .links) at stage seen (own-told s seen at stage)
-
--- "Accepted input has at most 3,854 bytes, so the first 4,096 bytes decide."
-pub network-long : (s : List ℕ) (n : Network) → AcceptedNetwork s n → length s ≤ 1804
-network-long = Exactly.accepted-most
-
-pub both-long : (s : List ℕ) (n : Network) (q : List Step) → AcceptedPlan s n q → length s ≤ 3854
-both-long = Exactly.accepted-plan-most
-
-pub planner-decided : (s : List ℕ) → planText (take decides s) ≡ planText s
-planner-decided s = ap linesOf (outcome-decided s)
-
-pub judge-decided : (s : List ℕ) → markText (take decides s) ≡ markText s
-judge-decided s = ap markLine (mark-decided s)
 
 -- ---- "Faulty input is refused by the first rule of document 01 that it breaks, with number and place."
 

@@ -182,9 +182,10 @@ module _ (n : Network) (w : WellFormed n) where
   costs-within c [] g = omega arith
   costs-within c (s ∷ q) g = omega (arith, cost-within (s .link) (g .0 .operable), costs-within _ q (g .1))
 
-  total-within : totalLoad (netOf n .grid) ≤ 2 ^ 32 * 64
+  pub total-within : totalLoad (netOf n .grid) < 2 ^ 38
   unfolding totalLoad netOf gridOf
-  total-within = omega (arith, sumTo-below (2 ^ 32) (λ e. getD (n .load) e 0) (n .elements) (λ e k. omega (arith, w .load-in e k)), w .elements-fit)
+  total-within =
+      omega (arith, sumTo-below (2 ^ 32 - 1) (λ e. getD (n .load) e 0) (n .elements) (λ e k. omega (arith, w .load-in e k)), w .elements-fit)
 
 -- ---- lines
 

@@ -19,7 +19,7 @@ use Rattle.file_network.proofs.Sizes.{network-input-size}
 use Rattle.file_network.proofs.NetworkAlike.{network-followed}
 use Rattle.file_plan.specs.declared.plan.Plan.{Plan}
 use Rattle.file_plan.specs.Accepted.{WellFormedPlan}
-use Rattle.file_both.specs.Inputs.{planBehind, bothInput, bothRead}
+use Rattle.file_both.specs.Inputs.{planBehind, planBehindBy, bothInput, bothInputBy, bothRead}
 use Rattle.file_writer.specs.Writing.{planBytes, planLength}
 use Rattle.file_writer.proofs.RoundTrip.{SameSteps, firstSteps, first-same, round-trip-input}
 use Rattle.feeding.specs.Networks.{netOf, gridOf}
@@ -35,11 +35,11 @@ use Rattle.plan_outcome.proofs.Promises.{outcome-kept}
 use Rattle.judge_marks.specs.declared.Mark.the-variants as Mark·
 use Rattle.judge_marks.specs.Marks.{markOf}
 use Rattle.judge_marks.proofs.Marking.{promised-marked}
-use Rattle.judge.specs.Judging.{markAccepted, markRead, markOfRead, markFor}
+use Rattle.judge.specs.Judging.{markAccepted, markRead, markOfRead, markFor, markForBy}
 use Rattle.plan_outcome.specs.declared.Planned.{Planned}
 use Rattle.plan_outcome.specs.declared.Reply.the-variants as Reply·
 use Rattle.plan_outcome.specs.declared.Outcome as Outcomes·
-use Rattle.plan_outcome.specs.Outcomes.{outcomeWith, outcomeWithout, outcomeFrom, outcomeFor, outcomeOf, outcomeAnswered, outcomeRead, outcome}
+use Rattle.plan_outcome.specs.Outcomes.{outcomeWith, outcomeWithout, outcomeFrom, outcomeFor, outcomeOf, outcomeAnswered, outcomeRead, outcome, outcomeBy}
 use Rattle.file_refusals.proofs.Reading.{file-formed, network-read, both-read}
 use Rattle.feeding_acceptance.specs.Reading.{Bytes, AcceptedNetwork}
 use Rattle.judge.specs.Judging.{AcceptedPlan}
@@ -68,7 +68,7 @@ chosen-formed n w (chosen D) p e =
 
 module _ (s : List ℕ) (bytes : Bytes s) (n : Network) (a : AcceptedNetwork s n) where
   outcome-is : outcome s ≡ outcomeOf n
-  unfolding outcome outcomeRead outcomeAnswered startWith
+  unfolding outcomeBy outcomeRead outcomeAnswered startWith
   outcome-is = ap outcomeRead (sym (admission-only s bytes _ (Admissions.accepted n a)))
 
   plan-formed : (p : Planned) → outcome s .reply ≡ Reply·.Plan p → WellFormedPlan (n .links) (outcome s .plan)
@@ -92,7 +92,7 @@ module _ (s : List ℕ) (bytes : Bytes s) (n : Network) (a : AcceptedNetwork s n
 
   module _ (p : Plan) (formed : WellFormedPlan (n .links) p) where
     both-is : bothInput (s ++ planBytes p) ≡ reached (length s + planLength p) Over (n, firstSteps p (p .steps))
-    unfolding bothInput planBehind
+    unfolding bothInputBy planBehindBy
     both-is =
         let followed = network-followed s (planBytes p) (length s) (file-read .0) n (file-read .1) in
         rw (followed, round-trip-input p (n .links) (formed .steps-fit) (formed .link-long) (formed .close-long) (formed .link-in) s)
@@ -113,7 +113,7 @@ module _ (s : List ℕ) (bytes : Bytes s) (n : Network) (a : AcceptedNetwork s n
 
     -- it is marked as its steps are
     plan-marked : markFor (s ++ planBytes p) ≡ markOf (netOf n) (stepsOf p)
-    unfolding markFor markOfRead markRead markAccepted bothRead
+    unfolding markForBy markOfRead markRead markAccepted bothRead
     plan-marked =
         ap (λ (o : Reading (Network × Plan)). markOfRead (bothRead o)) both-is
         ∙ ap (markAccepted n (firstSteps p (p .steps))) (sym (answered-network n (file-formed s bytes n (a .file)) Accepted (a .kept)))

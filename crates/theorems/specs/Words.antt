@@ -1,19 +1,20 @@
 -- Words of the demands that the theorems use: what is printed, how a text begins, and what a plan does on its way.
 -- Assumes nothing.
 use mathlib.Core.Path.{_≡_}
-use mathlib.Core.Bool.{true, not}
+use mathlib.Core.Bool.{Bool, true, not}
 use mathlib.Core.List.{List, _∷_, _++_}
 use Prim.Native.Nat.{ℕ, _<_, _≤_}
+use lib.Dec.{eqb}
 use Rattle.feeding.specs.Networks.{Net}
 use Rattle.feeding.specs.Parts.{Joined, Sound, Live}
 use Rattle.feeding.specs.Loads.{Fed, loadAt}
 use Rattle.feeding.specs.Safety.{Tree}
 use Rattle.feeding.specs.Restoration.{Restorable, Operable}
 use Rattle.feeding.specs.Plans.{Step, run}
-use Rattle.plan_outcome.specs.Outcomes.{outcome}
+use Rattle.plan_outcome.specs.Outcomes.{outcomeBy, outcome}
 use Rattle.planner.specs.Replies.{linesOf}
 use Rattle.judge_line.specs.MarkLines.{markLine}
-use Rattle.judge.specs.Judging.{markFor}
+use Rattle.judge.specs.Judging.{markForBy, markFor}
 
 -- ---- what is printed, by the contracts of `plan_text` and `mark_text`
 
@@ -22,6 +23,17 @@ planText s = linesOf (outcome s)
 
 abbrev pub markText : List ℕ → List ℕ
 markText s = markLine (markFor s)
+
+-- the same where only some kinds of records are known
+abbrev pub planTextBy : (ℕ → Bool) → List ℕ → List ℕ
+planTextBy known s = linesOf (outcomeBy known s)
+
+abbrev pub markTextBy : (ℕ → Bool) → List ℕ → List ℕ
+markTextBy known s = markLine (markForBy known s)
+
+-- the kinds that document 01 knows: those of the table but for item 1's
+abbrev pub documentOne : ℕ → Bool
+documentOne kind = not (eqb kind 7)
 
 -- a text begins with a word
 abbrev pub Begins : List ℕ → List ℕ → Type 0

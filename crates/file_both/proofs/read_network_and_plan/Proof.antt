@@ -2,7 +2,7 @@
 -- Assumes nothing.
 use mathlib.Core.Path.{ap, _∙_}
 use Rattle.file_network.specs.NetworkFiles.{networkFile}
-use Rattle.file_both.specs.Inputs.{bothInput, bothRead, planBehind}
+use Rattle.file_both.specs.Inputs.{bothInput, bothInputBy, bothRead, planBehind}
 use Rattle.file_network.proofs.Outcomes.{network-refused, network-reached}
 use borrow.Author.Needs.{needs}
 use Rattle.file_both.proofs.read_network_and_plan.Statement.{statement}
@@ -24,7 +24,7 @@ plan-behind-requires : tie.Need-plan-behind-requires
 plan-behind-requires c κs = tt
 
 returns : tie.Need-returns
-unfolding bothInput
+unfolding bothInputBy
 returns c =
     let args = c .before .before .before .before .before .before .args in
     let network-file = c .before .before .before .before .network-file in
@@ -32,7 +32,7 @@ returns c =
     (network-file .result) _ (network-file .ensures) (c .before .before .reached .given .1) .1)
 
 returns-2 : tie.Need-returns-2
-unfolding bothInput
+unfolding bothInputBy
 returns-2 c =
     let args = c .before .before .before .before .before .before .args in
     let network-file = c .before .before .before .before .network-file in

@@ -2,7 +2,7 @@
 -- Assumes nothing.
 use native.Mathlib.Omega.{arith}
 use borrow.Author.Tests.{ne-eqb}
-use Rattle.file_fields.specs.Fields.{lengthOf, fieldRules, headRules, elementRules, linkRules, planHeadRules, stepRules}
+use Rattle.file_fields.specs.Fields.{lengthOf, fieldRules, headRules, flagsRules, linkRules, planHeadRules, stepRules}
 use Rattle.file_fields.proofs.field_rules.Statement.{statement}
 use Rattle.file_fields.proofs.field_rules.Tie as tie
 
@@ -10,9 +10,13 @@ head-rules-requires : tie.Need-head-rules-requires
 unfolding lengthOf
 head-rules-requires c κs = omega (arith, rw (c .match .keys1) at (c .before .before .pre))
 
-element-rules-requires : tie.Need-element-rules-requires
+add-flags-rules : tie.Need-add-flags-rules
 unfolding lengthOf
-element-rules-requires c κs = omega (arith, rw (c .match .keys2) at (c .before .before .pre))
+add-flags-rules c = omega (arith, rw (c .match .keys2) at (c .before .before .pre))
+
+flags-rules-requires : tie.Need-flags-rules-requires
+unfolding lengthOf
+flags-rules-requires c κs = omega (arith, rw (c .match .keys2) at (c .before .before .pre))
 
 link-rules-requires : tie.Need-link-rules-requires
 unfolding lengthOf
@@ -26,13 +30,21 @@ step-rules-requires : tie.Need-step-rules-requires
 unfolding lengthOf
 step-rules-requires c κs = omega (arith, rw (c .match .keys5) at (c .before .before .pre))
 
+add-flags-rules-2 : tie.Need-add-flags-rules-2
+unfolding lengthOf
+add-flags-rules-2 c = omega (arith, rw (c .match .keys6) at (c .before .before .pre))
+
+flags-rules-requires-2 : tie.Need-flags-rules-requires-2
+unfolding lengthOf
+flags-rules-requires-2 c κs = omega (arith, rw (c .match .keys6) at (c .before .before .pre))
+
 returns : tie.Need-returns
 unfolding fieldRules headRules
 returns c = rw (c .before .match .keys1) (c .head-rules .ensures)
 
 returns-2 : tie.Need-returns-2
-unfolding fieldRules elementRules
-returns-2 c = rw (c .before .match .keys2) (c .element-rules .ensures)
+unfolding fieldRules flagsRules
+returns-2 c = rw (c .before .match .keys2) (c .flags-rules .ensures)
 
 returns-3 : tie.Need-returns-3
 unfolding fieldRules linkRules
@@ -47,15 +59,20 @@ unfolding fieldRules stepRules
 returns-5 c = rw (c .before .match .keys5) (c .step-rules .ensures)
 
 returns-6 : tie.Need-returns-6
+unfolding fieldRules flagsRules
+returns-6 c = rw (c .before .match .keys6) (c .flags-rules2 .ensures)
+
+returns-7 : tie.Need-returns-7
 unfolding fieldRules
-returns-6 c =
+returns-7 c =
     let k = c .before .before .args .kind in
     simp (
-      ne-eqb k 1 (c .match .rest .0 .0 .0 .0 .1),
-      ne-eqb k 2 (c .match .rest .0 .0 .0 .1),
-      ne-eqb k 3 (c .match .rest .0 .0 .1),
-      ne-eqb k 5 (c .match .rest .0 .1),
-      ne-eqb k 6 (c .match .rest .1),
+      ne-eqb k 1 (c .match .rest .0 .0 .0 .0 .0 .1),
+      ne-eqb k 2 (c .match .rest .0 .0 .0 .0 .1),
+      ne-eqb k 3 (c .match .rest .0 .0 .0 .1),
+      ne-eqb k 5 (c .match .rest .0 .0 .1),
+      ne-eqb k 6 (c .match .rest .0 .1),
+      ne-eqb k 7 (c .match .rest .1),
     )
 
 pub field-rules-spec : {M : Type 1} → statement M
@@ -64,7 +81,8 @@ field-rules-spec =
     (tie.spec
     head-rules-requires
     returns
-    element-rules-requires
+    add-flags-rules
+    flags-rules-requires
     returns-2
     link-rules-requires
     returns-3
@@ -72,4 +90,7 @@ field-rules-spec =
     returns-4
     step-rules-requires
     returns-5
-    returns-6)
+    add-flags-rules-2
+    flags-rules-requires-2
+    returns-6
+    returns-7)

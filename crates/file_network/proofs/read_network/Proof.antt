@@ -1,7 +1,7 @@
 -- `file_network::read_network` reads the file and asks rule 13: what was read, or nothing where it was refused.
 -- Assumes nothing.
 use Rattle.file_network.specs.NetworkFiles.{networkFile}
-use Rattle.file_network.specs.Inputs.{networkInput}
+use Rattle.file_network.specs.Inputs.{networkInput, networkInputBy}
 use Rattle.file_network.proofs.Inputs.{network-accepted, network-none}
 use borrow.Author.Needs.{needs}
 use Rattle.file_network.proofs.read_network.Statement.{statement}
@@ -23,7 +23,7 @@ empty-requires : tie.Need-empty-requires
 empty-requires c κs = tt
 
 returns : tie.Need-returns
-unfolding networkInput
+unfolding networkInputBy
 returns c =
     let args = c .before .before .before .before .before .before .args in
     let network-file = c .before .before .before .before .network-file in
@@ -32,7 +32,7 @@ returns c =
     (c .before .enum-told .given .1)
 
 returns-2 : tie.Need-returns-2
-unfolding networkInput
+unfolding networkInputBy
 returns-2 c =
     let args = c .before .before .before .before .before .before .args in
     let network-file = c .before .before .before .before .network-file in

@@ -1,7 +1,7 @@
 -- `file_plan::read_plan` reads the file and asks rule 13: what was read, or nothing where it was refused.
 -- Assumes nothing.
 use Rattle.file_plan.specs.PlanFiles.{planFile}
-use Rattle.file_plan.specs.Inputs.{planInput}
+use Rattle.file_plan.specs.Inputs.{planInput, planInputBy}
 use Rattle.file_plan.proofs.Inputs.{plan-accepted, plan-none}
 use borrow.Author.Needs.{needs}
 use Rattle.file_plan.proofs.read_plan.Statement.{statement}
@@ -23,7 +23,7 @@ empty-requires : tie.Need-empty-requires
 empty-requires c κs = tt
 
 returns : tie.Need-returns
-unfolding planInput
+unfolding planInputBy
 returns c =
     let args = c .before .before .before .before .before .before .args in
     let plan-file = c .before .before .before .before .plan-file in
@@ -32,7 +32,7 @@ returns c =
     (ended .ensures) (c .before .enum-told .given .1)
 
 returns-2 : tie.Need-returns-2
-unfolding planInput
+unfolding planInputBy
 returns-2 c =
     let args = c .before .before .before .before .before .before .args in
     let plan-file = c .before .before .before .before .plan-file in

@@ -1,48 +1,29 @@
--- `file_network::reader::element_at` reads the fields of an element record.
+-- `file_network::reader::element_at` reads an element record of either kind: each return by the test of the kind.
 -- Assumes nothing.
+use mathlib.Core.Path.{sym, ap, _∙_}
 use native.Mathlib.Omega.{arith}
+use borrow.Author.Tests.{ne-eqb}
 use Rattle.file_network.specs.NetworkFiles.{elementOf}
+use Rattle.file_network.proofs.Elements.{element-wide}
 use Rattle.file_network.proofs.reader.element_at.Statement.{statement}
 use Rattle.file_network.proofs.reader.element_at.Tie as tie
 
-add-word-at : tie.Need-add-word-at
-add-word-at c = omega arith
-
-word-at-requires : tie.Need-word-at-requires
-word-at-requires c κs = omega arith
-
-cast-load : tie.Need-cast-load
-cast-load c = omega arith
-
-add-word-at-2 : tie.Need-add-word-at-2
-add-word-at-2 c = omega arith
-
-word-at-requires-2 : tie.Need-word-at-requires-2
-word-at-requires-2 c κs = omega arith
-
-cast-capacity : tie.Need-cast-capacity
-cast-capacity c = omega arith
-
-add-word-at-3 : tie.Need-add-word-at-3
-add-word-at-3 c = omega arith
-
-word-at-requires-3 : tie.Need-word-at-requires-3
-word-at-requires-3 c κs = omega arith
+wide-element-requires : tie.Need-wide-element-requires
+wide-element-requires c κs = c .before .before .pre .wide-fits (c .if1 .taken)
 
 returns : tie.Need-returns
+returns c =
+    let pre = c .before .before .before .pre in
+    c .wide-element .ensures ∙ sym (element-wide _ _ (sym (pre .kind-is) ∙ c .before .if1 .taken))
+
+narrow-element-requires : tie.Need-narrow-element-requires
+narrow-element-requires c κs = c .before .before .pre .narrow-fits
+
+returns-2 : tie.Need-returns-2
 unfolding elementOf
-returns c = simp (← c .before .before .word-at .ensures, ← c .before .word-at2 .ensures, ← c .word-at3 .ensures)
+returns-2 c =
+    let pre = c .before .before .before .pre in
+    c .narrow-element .ensures ∙ simp (← pre .kind-is, ne-eqb _ _ (c .before .if1 .left))
 
 pub element-at-spec : {M : Type 1} → statement M
-element-at-spec =
-    tie.close
-    (tie.spec
-    add-word-at
-    word-at-requires
-    cast-load
-    add-word-at-2
-    word-at-requires-2
-    cast-capacity
-    add-word-at-3
-    word-at-requires-3
-    returns)
+element-at-spec = tie.close (tie.spec wide-element-requires returns narrow-element-requires returns-2)

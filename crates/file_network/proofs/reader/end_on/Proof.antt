@@ -4,7 +4,7 @@ use mathlib.Core.Path.{refl, ap, sym, _∙_}
 use native.Mathlib.Omega.{arith}
 use Rattle.file_fields.specs.Views.{nothingSeen}
 use Rattle.file_network.specs.Runs.{always, asIs}
-use Rattle.file_network.specs.NetworkFiles.{endOn}
+use Rattle.file_network.specs.NetworkFiles.{endOn, endOnBy}
 use Rattle.file_network.specs.Inputs.{networkPart}
 use Rattle.file_records.proofs.Due.{due-kept}
 use Rattle.file_network.proofs.Runs.{records-none}
@@ -39,7 +39,7 @@ add-after c =
     )
 
 returns : tie.Need-returns
-unfolding endOn nothingSeen
+unfolding endOnBy nothingSeen
 returns c =
     let args = c .before .before .before .before .before .before .args in
     let record-due = c .before .before .before .before .record-due in
@@ -47,7 +47,7 @@ returns c =
     (record-due .ensures) _ (c .before .before .found .given .1))
 
 returns-2 : tie.Need-returns-2
-unfolding endOn networkPart nothingSeen
+unfolding endOnBy networkPart nothingSeen
 returns-2 c =
     let args = c .before .before .before .before .before .args in
     ap networkPart (sym (records-none (args .s .now) (always nothingSeen) asIs _ _ (args .net)) ∙ run-turn (args .s .now) (always nothingSeen) asIs _ 1 (args .at) (args .stage)

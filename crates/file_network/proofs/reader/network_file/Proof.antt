@@ -7,7 +7,7 @@ use Rattle.file_stages.specs.declared.Stage.the-variants.{Head}
 use Rattle.network.specs.Networks.{emptyNetwork}
 use Rattle.file_fields.specs.Views.{nothingSeen}
 use Rattle.file_network.specs.Runs.{always}
-use Rattle.file_network.specs.NetworkFiles.{elementsOn, networkFile}
+use Rattle.file_network.specs.NetworkFiles.{elementsOn, networkFile, networkFileBy}
 use Rattle.file_network.specs.Inputs.{networkPart}
 use Rattle.file_records.proofs.Due.{due-kept, head-kept}
 use Rattle.file_network.proofs.Chains.{head-refused, head-found}
@@ -38,7 +38,7 @@ elements-on-requires c κs =
     w in (omega (arith, w .framed .fits, w .framed .enough), h .elements-fit, h .links-fit, w .framed .next-at)
 
 returns : tie.Need-returns
-unfolding networkFile nothingSeen
+unfolding networkFileBy nothingSeen
 returns c =
     let args = c .before .before .before .before .before .before .args in
     let record-due = c .before .before .before .before .record-due in
@@ -46,7 +46,7 @@ returns c =
     (c .before .before .found .given .1))
 
 returns-2 : tie.Need-returns-2
-unfolding networkFile nothingSeen
+unfolding networkFileBy nothingSeen
 returns-2 c =
     let args = c .before .before .before .before .before .before .args in
     let record-due = c .before .before .before .before .record-due in

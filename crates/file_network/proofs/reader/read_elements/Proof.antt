@@ -9,6 +9,7 @@ use Rattle.file_network.specs.Runs.{records, always}
 use Rattle.file_network.specs.NetworkFiles.{withElement}
 use Rattle.file_network.specs.Inputs.{networkPart}
 use Rattle.file_network.proofs.Outcomes.{Turn, run-done, run-refused, run-turn, turn-whole}
+use Rattle.file_network.proofs.Elements.{element-turn}
 use Rattle.file_network.proofs.Taken.{element-taken}
 use Rattle.network.specs.declared.Network.{Network}
 use Rattle.network.specs.Networks.{emptyNetwork}
@@ -72,7 +73,12 @@ turn c =
     (c .before .found2 .given .1)
 
 element-at-requires : tie.Need-element-at-requires Inv-loop μ-loop
-element-at-requires c κs = let w = turn c in omega arith
+unfolding nothingSeen
+element-at-requires c κs =
+    let args = c .before .before .before .before .before .before .before .before .args in
+    let loop = c .before .before .before .before .before .loop in
+    element-turn (args .s .now) nothingSeen (loop .at) (loop .stage) _ _ _ _ (c .before .before .before .record-due .ensures) (loop .inv .0)
+    (c .before .found2 .given .1)
 
 mul-net : tie.Need-mul-net Inv-loop μ-loop
 mul-net c = omega arith

@@ -3,7 +3,7 @@
 use mathlib.Core.Path.{refl, ap, sym, _∙_}
 use native.Mathlib.Omega.{arith}
 use Rattle.file_network.specs.Runs.{always, asIs}
-use Rattle.file_plan.specs.PlanFiles.{planEndOn}
+use Rattle.file_plan.specs.PlanFiles.{planEndOn, planEndOnBy}
 use Rattle.file_plan.specs.Inputs.{planPart}
 use Rattle.file_records.proofs.Due.{due-kept}
 use Rattle.file_network.proofs.Runs.{records-none}
@@ -37,7 +37,7 @@ add-after c =
     )
 
 returns : tie.Need-returns
-unfolding planEndOn
+unfolding planEndOnBy
 returns c =
     let args = c .before .before .before .before .before .before .args in
     let record-due = c .before .before .before .before .record-due in
@@ -45,7 +45,7 @@ returns c =
     (omega arith) (record-due .ensures) _ (c .before .before .found .given .1))
 
 returns-2 : tie.Need-returns-2
-unfolding planEndOn planPart
+unfolding planEndOnBy planPart
 returns-2 c =
     let args = c .before .before .before .before .before .args in
     ap planPart (sym (records-none (args .s .now) (always (args .seen)) asIs _ _ (args .plan)) ∙ run-turn (args .s .now) (always (args .seen)) asIs _ 1 (args .at)

@@ -5,7 +5,7 @@ use native.Mathlib.Omega.{arith}
 use Rattle.file_fields.specs.Views.{linksSeen}
 use Rattle.file_stages.specs.declared.Stage.the-variants.{PlanHead}
 use Rattle.file_network.specs.Runs.{always}
-use Rattle.file_plan.specs.PlanFiles.{emptyPlan, stepsOn, planFile}
+use Rattle.file_plan.specs.PlanFiles.{emptyPlan, stepsOn, planFile, planFileBy}
 use Rattle.file_plan.specs.Inputs.{planPart}
 use Rattle.file_records.proofs.Due.{due-kept, plan-head-kept}
 use Rattle.file_network.proofs.Chains.{head-refused, head-found}
@@ -47,7 +47,7 @@ steps-on-requires c κs =
     )
 
 returns : tie.Need-returns
-unfolding planFile linksSeen
+unfolding planFileBy linksSeen
 returns c =
     let args = c .before .before .before .before .before .before .args in
     let record-due = c .before .before .before .before .record-due in
@@ -55,7 +55,7 @@ returns c =
     (stepsOn (args .s .now) (linksSeen (args .links)) (args .at)) _ (record-due .ensures) _ (c .before .before .found .given .1))
 
 returns-2 : tie.Need-returns-2
-unfolding planFile linksSeen
+unfolding planFileBy linksSeen
 returns-2 c =
     let args = c .before .before .before .before .before .before .args in
     let record-due = c .before .before .before .before .record-due in
