@@ -1,7 +1,7 @@
 #!/usr/bin/env python3
-"""Writes the files of this folder: the networks of document 01, "Tried networks", with plans for them, and the largest
-network with the longest plan; and the standard input that the gate gives to `plan` (B) and to `mark` (B with the plan
-of case 8)."""
+"""Writes the files of this folder: the networks of document 01, "Tried networks", with plans for them, network B in
+volt-amperes, and the largest network with the longest plan; and the standard input that the gate gives to `plan` (B)
+and to `mark` (B with the plan of case 8)."""
 import os
 import struct
 
@@ -14,9 +14,16 @@ def records(*records):
     return b"".join(struct.pack(f"<{len(r) + 1}H", 2 * (len(r) + 1), *r) for r in records)
 
 
+def element(load, capacity, flags):
+    """Kind 2, or kind 7 with a load and a capacity of four bytes where one of them needs it."""
+    if max(load, capacity) < 65536:
+        return (2, load, capacity, flags)
+    return (7, load % 65536, load // 65536, capacity % 65536, capacity // 65536, flags)
+
+
 def network(elements, links):
-    """Kind 1 head, kind 2 elements (load, capacity, flags), kind 3 links (two ends, form, cost), kind 4 end."""
-    return records((1, len(elements), len(links)), *((2, *e) for e in elements), *((3, *l) for l in links), (4,))
+    """Kind 1 head, elements (load, capacity, flags), kind 3 links (two ends, form, cost), kind 4 end."""
+    return records((1, len(elements), len(links)), *(element(*e) for e in elements), *((3, *l) for l in links), (4,))
 
 
 def plan(*steps):
@@ -36,17 +43,18 @@ def largest():
     return network(elements, links), plan(*steps)
 
 
-B = network(
-    [(0, 5, 1), (2, 9, 0), (1, 9, 2), (3, 9, 0), (0, 3, 1)],
-    [(0, 1, CLOSED, 1), (1, 2, OPEN, 1), (2, 3, OPEN, 1), (3, 4, OPEN, 4), (1, 3, OPEN, 2)],
-)
+B_LINKS = [(0, 1, CLOSED, 1), (1, 2, OPEN, 1), (2, 3, OPEN, 1), (3, 4, OPEN, 4), (1, 3, OPEN, 2)]
+B = network([(0, 5, 1), (2, 9, 0), (1, 9, 2), (3, 9, 0), (0, 3, 1)], B_LINKS)
+B_VA = network([(0, 500000, 1), (200000, 900000, 0), (1, 9, 2), (300000, 900000, 0), (0, 3, 1)], B_LINKS)
 D = network(
     [(0, 2, 1), (2, 9, 0), (2, 9, 0), (0, 2, 1)],
     [(0, 1, OPEN, 1), (1, 2, CLOSED, 1), (2, 3, OPEN, 1)],
 )
 CLOSE_3 = plan((3, 1))
 LARGEST, LONGEST = largest()
-FILES = {"b.net": B, "d.net": D, "close_3.plan": CLOSE_3, "largest.net": LARGEST, "largest.plan": LONGEST}
+FILES = {
+    "b.net": B, "b_va.net": B_VA, "d.net": D, "close_3.plan": CLOSE_3, "largest.net": LARGEST, "largest.plan": LONGEST
+}
 
 if __name__ == "__main__":
     folder = os.path.dirname(os.path.abspath(__file__))

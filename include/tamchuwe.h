@@ -11,17 +11,19 @@
  * side. Of C's library it needs memcpy and memset. 64 KiB of stack suffice (measured, not proved).
  *
  * INPUT is any bytes at all. The planner expects a network file, the judge a network file with a plan file directly
- * behind it. All numbers in files are unsigned, two bytes, low byte first. A record is its length in bytes (the
- * length field included), its kind, its fields:
+ * behind it. All numbers in files are unsigned, two bytes unless four are named, low byte first. A record is its
+ * length in bytes (the length field included), its kind, its fields:
  *     network head   8, 1, elements (1 to 64), links (0 to 96)
  *     element       10, 2, own load, capacity, flags (1 source, 2 faulty, 3 both, 0 neither)
  *     link          12, 3, two different elements, form (0 fixed, 1 open switch, 2 closed switch), cost (0 for fixed,
  *                   else 1 to 65535)
+ *     wide element  14, 7, own load (four bytes), capacity (four bytes), flags: wherever an element may stand
  *     end            4, 4
  *     plan head      6, 5, steps (0 to 255)
  *     step           8, 6, link, state wanted (0 open, 1 closed: not the numbers of a link's form)
  * A network file is one head, its elements, its links, one end; a plan file one plan head, its steps, one end.
- * Elements and links are numbered from 0 in file order, steps from 1.
+ * Elements and links are numbered from 0 in file order, steps from 1. An accepted network file has at most 2060 bytes,
+ * an accepted input of the judge at most 4110; the first 8192 bytes of an input decide.
  *
  * REFUSALS. What breaks a rule is answered by the first that it breaks, with its number and a place. Rules 1 to 12
  * are asked of each record of the whole input in turn, then 13, then 14 to 18 of the network, in this order. The place
@@ -89,7 +91,7 @@ enum { TAMCHUWE_PLAN = 1, TAMCHUWE_NONE = 2 };
 enum { TAMCHUWE_BROKEN = 1, TAMCHUWE_SHORT = 2, TAMCHUWE_VALID = 3 };
 
 /* Lengths in bytes that suffice for every input: by rule 18 a printed plan has at most 12 steps, and no printed
- * number has more than 20 digits. */
+ * number has more than 20 digits (sums of loads are below 2^38: at most 12). */
 enum { TAMCHUWE_PLAN_FILE_LENGTH = 106, TAMCHUWE_PLAN_TEXT_LENGTH = 512, TAMCHUWE_MARK_TEXT_LENGTH = 64 };
 
 /* How many values this version has: what `count` gets, of whatever kind the answer is. */

@@ -1,4 +1,5 @@
 -- Document 02, item 1: how many bytes of an input decide its reply. Laws and contracts say `decides` where the document says the number.
+-- Internal: `Request1` of `theorems` says the number.
 -- Assumes nothing.
 use Prim.Native.Nat.{ℕ}
 

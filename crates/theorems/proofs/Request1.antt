@@ -2,15 +2,14 @@
 -- library give by their contracts (Demand1); that rules 1 to 13 are answered both ways, with kind 7 among the kinds, is Demand1's.
 -- Assumes nothing.
 use mathlib.Core.Path.{_≡_, refl, sym, ap, subst, _∙_}
-use mathlib.Core.Bool.{Bool, true, false, not}
+use mathlib.Core.Bool.{not}
 use mathlib.Core.List.{List, _∷_}
 use mathlib.Core.Logic.{_↔_}
-use Prim.Native.Nat.{ℕ, _+_, _*_, _^_, _<_, _≤_}
+use Prim.Native.Nat.{ℕ, _+_, _*_, _-_, _^_, _<_, _≤_}
 use native.Mathlib.Nat.{add-assoc}
 use native.Mathlib.Omega.{arith}
-use lib.Dec.{eqb}
 use lib.ListN.{length, getD, take, replicate}
-use borrow.Author.Tests.{ne-eqb, eqb-true}
+use borrow.Author.Tests.{ne-eqb, le-ltb}
 use Rattle.network.specs.declared.Network.{Network}
 use Rattle.network.specs.declared.refusal.Rule.the-variants.{KindOutOfPlace, WrongLength, UnknownFlags}
 use Rattle.file_stages.specs.declared.Stage.{Stage}
@@ -139,6 +138,10 @@ judge-decided s = ap markLine (mark-decided s)
 -- a record of another kind is found and refused as ever, one of kind 7 refused by rule 2 where four bytes stand there
 pub known-record : (s : List ℕ) (seen : Seen) (at : ℕ) (stage : Stage) → ¬ (kindField s at ≡ 7) → dueBy documentOne s seen at stage ≡ dueAt s seen at stage
 known-record s seen at stage h = Known.known-record documentOne s seen at stage (ap not (ne-eqb (kindField s at) 7 h))
+
+pub unknown-record : (s : List ℕ) (seen : Seen) (at : ℕ) (stage : Stage) → kindField s at ≡ 7 → at + 4 ≤ length s
+    → dueBy documentOne s seen at stage ≡ Found·.Refused (record { rule = KindOutOfPlace; place = at })
+unknown-record s seen at stage h four = Known.unknown-record documentOne s seen at stage (ap documentOne h) (le-ltb (length s - at) 4 (omega arith))
 
 known-there : {A : Type 0} (s : List ℕ) (o : Reading A) → ((place : ℕ) → o ≡ refused (record { rule = KindOutOfPlace; place = place }) → ¬ (kindField s place ≡ 7))
     → KnownThere documentOne s o
