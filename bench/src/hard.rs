@@ -29,7 +29,7 @@ pub enum Costs {
 }
 
 /// Loads of dark parts are multiples of this.
-const UNIT: u16 = 20;
+const UNIT: u32 = 20;
 /// What a closing of a late plan costs: more than any other switch.
 const DEAR: u16 = 12;
 
@@ -93,13 +93,13 @@ fn late(mut draft: Draft) -> Draft {
 fn round(r: &mut Random, plot: &mut Plot) {
     for part in plot.parts[plot.sources..].to_vec() {
         let load = plot.load_of(&part);
-        let units = load.div_ceil(UNIT) + r.below(3) as u16;
+        let units = load.div_ceil(UNIT) + r.below(3) as u32;
         plot.draft.elements[r.pick(&part)].load += units * UNIT - load;
     }
 }
 
 /// A live element that bounds what may be fed behind it, and the load behind it at the start.
-type Bound = (usize, u16);
+type Bound = (usize, u32);
 
 /// The sources.
 fn whole_parts(plot: &Plot) -> Vec<Bound> {
@@ -121,11 +121,11 @@ fn branches(plot: &Plot) -> Vec<Bound> {
 /// Shares the dark load out in units, and a rest less than a unit to each. If `short`, a unit is missing, which the rests make up for in all.
 fn share(r: &mut Random, plot: &mut Plot, bounds: fn(&Plot) -> Vec<Bound>, short: bool) {
     let (bounds, dark) = (bounds(plot), plot.parts[plot.sources..].concat());
-    let mut units = plot.load_of(&dark) / UNIT - short as u16;
+    let mut units = plot.load_of(&dark) / UNIT - short as u32;
     for (i, &(element, load)) in bounds.iter().enumerate() {
         let others = bounds.len() - i - 1;
-        let own = if others == 0 { units } else { units * r.from(2, 4) as u16 / (2 + 3 * others as u16).max(4) };
-        let rest = r.from(if short { UNIT as usize / 2 } else { 0 }, UNIT as usize - 1) as u16;
+        let own = if others == 0 { units } else { units * r.from(2, 4) as u32 / (2 + 3 * others as u32).max(4) };
+        let rest = r.from(if short { UNIT as usize / 2 } else { 0 }, UNIT as usize - 1) as u32;
         plot.draft.elements[element].capacity = load + own * UNIT + rest;
         units -= own;
     }
@@ -134,7 +134,7 @@ fn share(r: &mut Random, plot: &mut Plot, bounds: fn(&Plot) -> Vec<Bound>, short
 /// Lets each dark part bear its own load and a few units besides.
 fn narrow(r: &mut Random, plot: &mut Plot) {
     for part in plot.parts[plot.sources..].to_vec() {
-        let most = plot.load_of(&part) + UNIT * r.below(9) as u16;
+        let most = plot.load_of(&part) + UNIT * r.below(9) as u32;
         part.iter().for_each(|&e| plot.draft.elements[e].capacity = most);
     }
 }

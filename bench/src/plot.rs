@@ -26,7 +26,7 @@ pub struct Style {
 }
 
 /// More than all loads together.
-pub const AMPLE: u16 = 60_000;
+pub const AMPLE: u32 = 60_000;
 /// So many times a switch is tried elsewhere.
 const MOVES: usize = 80;
 
@@ -44,7 +44,7 @@ impl Plot {
         let groups = self.parts.len();
         for e in 0..ELEMENTS {
             let group = if e < (style.branches + 2) * groups { e % groups } else { r.below(groups) };
-            self.draft.add_element(r.from(1, 9) as u16, AMPLE, (e < self.sources) as u16);
+            self.draft.add_element(r.from(1, 9) as u32, AMPLE, (e < self.sources) as u16);
             if e >= groups {
                 let near = self.near(r, group, style);
                 self.draft.add_link((near, e), FIXED, 0);
@@ -135,7 +135,7 @@ impl Plot {
         }
     }
 
-    pub fn load_of(&self, elements: &[usize]) -> u16 {
+    pub fn load_of(&self, elements: &[usize]) -> u32 {
         elements.iter().map(|&e| self.draft.elements[e].load).sum()
     }
 }

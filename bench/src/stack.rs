@@ -36,7 +36,7 @@ pub fn run(folder: &Path) -> Result<(), String> {
 /// One source, fixed links, and at the end open switches, which the plan closes.
 fn chain() -> Pair {
     let mut draft = Draft::default();
-    (0..ELEMENTS).for_each(|e| draft.add_element(1, ELEMENTS as u16, (e == 0) as u16));
+    (0..ELEMENTS).for_each(|e| draft.add_element(1, ELEMENTS as u32, (e == 0) as u16));
     let switches = ELEMENTS - 1 - SWITCHES..ELEMENTS - 1;
     (0..ELEMENTS - 1).for_each(|l| draft.add_link((l, l + 1), if switches.contains(&l) { OPEN } else { FIXED }, 1));
     let steps: Vec<(usize, u16)> = switches.map(|link| (link, 1)).collect();

@@ -43,7 +43,7 @@ fn changed(mut draft: Draft, change: impl Fn(&mut Draft)) -> Draft {
 
 /// What the planner's lines begin with.
 fn replies() -> Vec<(Draft, &'static str)> {
-    let small = |capacity: u16| changed(network_b(), |b| b.elements[0].capacity = capacity);
+    let small = |capacity: u32| changed(network_b(), |b| b.elements[0].capacity = capacity);
     let mut alone = Draft::default();
     alone.add_element(0, 0, 1);
     vec![

@@ -24,7 +24,7 @@ struct View {
 
 pub struct Joint {
     /// what it can bear besides
-    pub left: i32,
+    pub left: i64,
     /// the next joint towards the source
     pub up: u16,
 }
@@ -108,7 +108,7 @@ impl<'a> Feeding<'a> {
     }
 
     /// Puts a load on all joints up to the source, or on none if one can't bear it.
-    fn bear(&mut self, first: u16, load: i32) -> bool {
+    fn bear(&mut self, first: u16, load: i64) -> bool {
         let mut at = first;
         while at != NO_JOINT {
             let joint = &mut self.joints[at as usize];
@@ -123,7 +123,7 @@ impl<'a> Feeding<'a> {
     }
 
     /// Takes a load from the joints up to one that is excluded.
-    fn relieve(&mut self, first: u16, end: u16, load: i32) {
+    fn relieve(&mut self, first: u16, end: u16, load: i64) {
         let mut at = first;
         while at != end {
             let joint = &mut self.joints[at as usize];
@@ -144,7 +144,7 @@ impl<'a> Feeding<'a> {
     }
 
     /// The load at an element and its joint, if it has one; `None` once a load exceeds its capacity.
-    fn look(&mut self, view: usize, element: usize, from: u64, switches: u16) -> Option<(i32, u16)> {
+    fn look(&mut self, view: usize, element: usize, from: u64, switches: u16) -> Option<(i64, u16)> {
         let mut load = self.lumped.load[element];
         let (mut below, mut count) = ([NO_JOINT; SWITCHES], 0);
         let mut next = self.accepted.network.neighbours.of(element) & self.lumped.kept & !from;
@@ -158,7 +158,7 @@ impl<'a> Feeding<'a> {
             next &= next - 1;
         }
         let joint = self.over(view, self.nodes.ports[element] & switches, &below[..count]);
-        let left = self.accepted.network.ratings[element].capacity as i32 - load;
+        let left = self.accepted.network.ratings[element].capacity as i64 - load;
         if joint != NO_JOINT {
             let joint = &mut self.joints[joint as usize];
             joint.left = joint.left.min(left);
@@ -172,7 +172,7 @@ impl<'a> Feeding<'a> {
             return below.first().copied().unwrap_or(NO_JOINT);
         }
         let joint = self.joints.len() as u16;
-        self.joints.push(Joint { left: i32::MAX, up: NO_JOINT });
+        self.joints.push(Joint { left: i64::MAX, up: NO_JOINT });
         bits(switches as u128).for_each(|switch| self.views[view].at[switch] = joint);
         below.iter().for_each(|&other| self.joints[other as usize].up = joint);
         joint

@@ -39,7 +39,7 @@ struct Stage {
     cut: u16,
     /// the nodes outside, and their load
     waiting: u32,
-    load: i32,
+    load: i64,
     /// no tree grown from this one weighs less: each node outside is joined over one of its switches
     least: i64,
 }

@@ -15,7 +15,7 @@ pub struct Supply {
     /// of each fed waiting node the gate where it hangs
     gate: [u8; NODES],
     /// the least load of a node
-    least: i32,
+    least: i64,
 }
 
 impl Supply {
@@ -45,7 +45,7 @@ impl Supply {
     }
 
     /// Whether so much load can't be taken in where these switches lead on.
-    pub fn falls_short(&self, feeding: &Feeding, leading: u16, load: i32) -> bool {
+    pub fn falls_short(&self, feeding: &Feeding, leading: u16, load: i64) -> bool {
         let (mut behind, mut total) = ([0; GATES], 0);
         for (gate, joint) in feeding.gates().iter().enumerate() {
             let open = self.switches[gate] & leading != 0 && joint.left >= self.least;
