@@ -229,8 +229,8 @@ fn parallel(r: &mut Random) -> Draft {
     let (n, most) = (r.from(2, 4), dearest(r));
     let mut draft = Draft::default();
     for e in 0..n {
-        let flags = if e == 0 { 1 } else { r.pick(&[0, 0, 0, 0, 1, 2]) };
-        draft.add_element(r.below(3) as u32, r.from(3, 9) as u32, flags);
+        let (load, capacity) = (r.below(3) as u32, r.from(3, 9) as u32);
+        draft.add_element(load, capacity, if e == 0 { 1 } else { r.pick(&[0, 0, 0, 0, 1, 2]) });
     }
     for e in 1..n {
         for _ in 0..r.from(1, if n == 2 { 13 } else { 3 }) {
