@@ -58,7 +58,7 @@ fn tiny(r: &mut Random) -> Draft {
     draft
 }
 
-fn two_of(r: &mut Random, n: usize) -> (usize, usize) {
+pub fn two_of(r: &mut Random, n: usize) -> (usize, usize) {
     let a = r.below(n);
     let b = r.below(n - 1);
     (a, if b < a { b } else { b + 1 })
