@@ -1,5 +1,5 @@
 //! The enumeration beside the independent planner and judge: they must print the same bytes.
-use crate::counts::Counts;
+use crate::coverage::Coverage;
 use crate::draft::Draft;
 use crate::enumeration;
 use crate::independent;
@@ -29,9 +29,9 @@ impl Answers {
         Ok(Answers { reply, marks })
     }
 
-    pub fn count(&self, counts: &mut Counts) {
-        counts.add_reply(self.reply.as_bytes());
-        self.marks.iter().for_each(|mark| counts.add_mark(mark.as_bytes()));
+    pub fn count(&self, item: &Item, coverage: &mut Coverage) {
+        coverage.add_reply(&item.network, self.reply.as_bytes());
+        item.inputs().zip(&self.marks).for_each(|(input, mark)| coverage.add_mark(&input, mark.as_bytes()));
     }
 }
 
@@ -74,10 +74,10 @@ fn same_when_cut(r: &mut Random) -> Result<(), String> {
 }
 
 /// One item; hands back how many plans it has.
-fn compare_one(r: &mut Random, counts: &mut Counts) -> Result<usize, String> {
+fn compare_one(r: &mut Random, coverage: &mut Coverage) -> Result<usize, String> {
     let item = item(r, any);
     let answers = Answers::of(&item)?;
-    answers.count(counts);
+    answers.count(&item, coverage);
     if r.one_in(8) {
         same_when_widened(r, &item, &answers)?;
     }
@@ -90,12 +90,12 @@ fn compare_one(r: &mut Random, counts: &mut Counts) -> Result<usize, String> {
 /// Compares them on so many networks with their plans.
 pub fn compare(seed: u64, count: usize) -> Result<(), String> {
     let mut r = Random::new(seed);
-    let mut counts = Counts::default();
+    let mut coverage = Coverage::default();
     let mut plans = 0;
     for number in 1..=count {
-        let drawn = compare_one(&mut r, &mut counts);
+        let drawn = compare_one(&mut r, &mut coverage);
         plans += drawn.map_err(|difference| format!("seed {seed}, item {number}: {difference}"))?;
     }
-    println!("{counts}{count} networks, {plans} plans, seed {seed}: 0 differences");
+    println!("{coverage}{count} networks, {plans} plans, seed {seed}: 0 differences");
     Ok(())
 }

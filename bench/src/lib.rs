@@ -3,6 +3,7 @@ pub mod brim;
 pub mod comparison;
 pub mod corpus;
 pub mod counts;
+pub mod coverage;
 pub mod damage;
 pub mod draft;
 pub mod element_damage;
