@@ -1,4 +1,5 @@
-//! How often each kind of reply and mark occurred: in all, for inputs with wide elements, and at a wide element's record.
+//! How often each kind of reply and mark occurred: in all, for inputs with wide elements, and at a wide element's
+//! record.
 use crate::counts::Counts;
 use crate::records::{is_of, records_of, WIDE_ELEMENT};
 use std::fmt;
@@ -52,8 +53,8 @@ impl Coverage {
 /// What occurred too rarely, on one line.
 pub fn listed(rare: &Each<Vec<String>>) -> String {
     let named = ["in all", "with wide elements", "at a wide element"].into_iter().zip(rare);
-    let listed = named.filter(|(_, kinds)| !kinds.is_empty()).map(|(name, kinds)| format!("{name} {}", kinds.join(", ")));
-    listed.collect::<Vec<_>>().join("; ")
+    let found = named.filter(|(_, kinds)| !kinds.is_empty());
+    found.map(|(name, kinds)| format!("{name} {}", kinds.join(", "))).collect::<Vec<_>>().join("; ")
 }
 
 /// Whether a refusal's place is an offset where a record says that it is a wide element.

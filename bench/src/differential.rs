@@ -1,5 +1,5 @@
-//! The proved functions beside the independent ones on random inputs: every printed byte, every value, and every byte of
-//! the lent buffers.
+//! The proved functions beside the independent ones on random inputs: every printed byte, every value, and every byte
+//! of the lent buffers.
 use crate::library;
 use bench::coverage::{listed, Coverage, Each};
 use bench::draft::plan_file;

@@ -1,4 +1,5 @@
-//! Large networks that are hard to plan: the sources suffice in all and every element bears its own load, so it mostly takes a search to decide.
+//! Large networks that are hard to plan: the sources suffice in all and every element bears its own load, so it
+//! mostly takes a search to decide.
 use crate::draft::Draft;
 use crate::independent::{self, Reply};
 use crate::plot::{Plot, Style};
@@ -9,11 +10,13 @@ use crate::random::Random;
 pub enum Tight {
     /// at its two or three sources: together they suffice, but the dark parts must be shared out among them
     Sources,
-    /// the same, with parts that are chains and have switches at their ends alone: hardly anything hangs by one link there
+    /// the same, with parts that are chains and have switches at their ends alone: hardly anything hangs by one link
+    /// there
     SourcesOfChains,
     /// at the branches behind its one source, which suffices: only a walk over the loads shows where too much hangs
     Branches,
-    /// in the dark, where parts bear little besides their own load: a part must not be fed over too many others, whatever the source can bear
+    /// in the dark, where parts bear little besides their own load: a part must not be fed over too many others,
+    /// whatever the source can bear
     Passages,
 }
 
@@ -24,7 +27,8 @@ pub enum Costs {
     Mixed,
     /// all the same: many sets are equally dear, and a search can't stop by cost before it has the last of its closings
     Equal,
-    /// most for the closings of a plan, which stand last in the file too: cheaper sets and earlier ones fail first, and the plan is found late
+    /// most for the closings of a plan, which stand last in the file too: cheaper sets and earlier ones fail first,
+    /// and the plan is found late
     Late,
 }
 
@@ -118,7 +122,8 @@ fn branches(plot: &Plot) -> Vec<Bound> {
     plot.parts[0][1..].iter().filter(|&&e| branch[e] == e).map(|&e| (e, plot.load_of(&behind(e)))).collect()
 }
 
-/// Shares the dark load out in units, and a rest less than a unit to each. If `short`, a unit is missing, which the rests make up for in all.
+/// Shares the dark load out in units, and a rest less than a unit to each. If `short`, a unit is missing, which the
+/// rests make up for in all.
 fn share(r: &mut Random, plot: &mut Plot, bounds: fn(&Plot) -> Vec<Bound>, short: bool) {
     let (bounds, dark) = (bounds(plot), plot.parts[plot.sources..].concat());
     let mut units = plot.load_of(&dark) / UNIT - short as u32;

@@ -101,22 +101,54 @@ struct Shape {
 }
 
 fn grown_brief(r: &mut Random) -> Draft {
-    let shape = Shape { elements: r.from(3, 6), sources: r.from(1, 2), dark: r.from(1, 3), faults: r.below(2), ties: r.from(1, 5), switches: 2, others: r.below(2) };
+    let shape = Shape {
+        elements: r.from(3, 6),
+        sources: r.from(1, 2),
+        dark: r.from(1, 3),
+        faults: r.below(2),
+        ties: r.from(1, 5),
+        switches: 2,
+        others: r.below(2),
+    };
     grown(r, shape)
 }
 
 fn grown_small(r: &mut Random) -> Draft {
-    let shape = Shape { elements: r.from(4, 12), sources: r.from(1, 3), dark: r.from(1, 5), faults: r.below(3), ties: r.from(1, 8), switches: 3, others: r.below(4) };
+    let shape = Shape {
+        elements: r.from(4, 12),
+        sources: r.from(1, 3),
+        dark: r.from(1, 5),
+        faults: r.below(3),
+        ties: r.from(1, 8),
+        switches: 3,
+        others: r.below(4),
+    };
     grown(r, shape)
 }
 
 fn grown_middle(r: &mut Random) -> Draft {
-    let shape = Shape { elements: r.from(12, 40), sources: r.from(1, 4), dark: r.from(1, 7), faults: r.below(3), ties: r.from(3, 10), switches: 9, others: r.below(12) };
+    let shape = Shape {
+        elements: r.from(12, 40),
+        sources: r.from(1, 4),
+        dark: r.from(1, 7),
+        faults: r.below(3),
+        ties: r.from(3, 10),
+        switches: 9,
+        others: r.below(12),
+    };
     grown(r, shape)
 }
 
 fn grown_large(r: &mut Random) -> Draft {
-    let shape = Shape { elements: ELEMENTS, sources: r.from(1, 5), dark: r.from(2, 8), faults: r.below(3), ties: r.from(5, 11), switches: 30, others: LINKS };
+    let shape = Shape {
+        elements: ELEMENTS,
+        sources: r.from(1, 5),
+        dark: r.from(2, 8),
+        faults: r.below(3),
+        ties: r.from(5, 11),
+        switches: 30,
+        others: LINKS,
+    };
     grown(r, shape)
 }
 

@@ -1,7 +1,8 @@
 //! A large network that is being drawn: 64 elements, 96 links, 12 operable switches, ample capacities.
 //!
-//! The operable switches are placed so that many sets of them feed everything: with all live parts taken as one, such a set leaves a spanning tree
-//! of the parts closed, so switches are moved as long as that makes more spanning trees. There are some 400 at most.
+//! The operable switches are placed so that many sets of them feed everything: with all live parts taken as one, such
+//! a set leaves a spanning tree of the parts closed, so switches are moved as long as that makes more spanning trees.
+//! There are some 400 at most.
 use crate::draft::{Draft, CLOSED, FIXED, OPEN};
 use crate::independent::{ELEMENTS, LINKS, SWITCHES};
 use crate::random::Random;
@@ -89,7 +90,8 @@ impl Plot {
         others.swap_remove(r.below(SWITCHES));
         let Some(pair) = self.pair(r, &others) else { return pairs };
         others.push(pair);
-        let trees = |pairs: &[(usize, usize)]| spanning::trees(self.parts.len() + 1 - self.sources, &self.as_one(pairs));
+        let nodes = self.parts.len() + 1 - self.sources;
+        let trees = |pairs: &[(usize, usize)]| spanning::trees(nodes, &self.as_one(pairs));
         if trees(&others) >= trees(&pairs) { others } else { pairs }
     }
 

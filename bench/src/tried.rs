@@ -86,11 +86,12 @@ fn brimful(load: u32) -> Draft {
 
 /// What the planner's lines begin with for wide elements.
 fn wide_replies() -> Vec<(Draft, &'static str)> {
+    let all_wide = changed(network_b(), |b| b.elements.iter_mut().for_each(|element| element.wide = true));
     vec![
+        (all_wide, "PLAN 1 2\nCLOSE 4\nLOAD 5 0 1\n"),
         (wide_b(), "PLAN 1 2\nCLOSE 4\nLOAD 500000 0 1\n"),
         (changed(wide_b(), |b| b.elements[0].capacity = 499_999), "NONE\nLOAD 200000 300000 1\n"),
         (changed(wide_b(), |b| b.elements[0].capacity = 199_999), "REFUSED 17 0\n"),
-        (changed(network_b(), |b| b.elements.iter_mut().for_each(|e| e.wide = true)), "PLAN 1 2\nCLOSE 4\nLOAD 5 0 1\n"),
         (brimful(0), "PLAN 0 0\nLOAD 4294967295 0 0\n"),
         (brimful(1), "REFUSED 17 0\n"),
         (changed(brimful(1), |b| b.links[1].form = OPEN), "NONE\nLOAD 4294967295 1 0\n"),
@@ -98,9 +99,9 @@ fn wide_replies() -> Vec<(Draft, &'static str)> {
     ]
 }
 
-/// The planner's lines for network B with its first element wide and some bytes changed: element 0 stands at 8, element 1
-/// at 22, link 0 at 62.
-fn wide_refusals() -> Vec<(Vec<u8>, &'static str)> {
+/// The planner's lines for network B with its first element wide and some bytes changed: element 0 stands at 8,
+/// element 1 at 22, link 0 at 62.
+fn edited() -> Vec<(Vec<u8>, &'static str)> {
     let file = changed(network_b(), |b| b.elements[0].wide = true).file();
     let with = |at: usize, byte: u8| {
         let mut bytes = file.clone();
@@ -139,7 +140,7 @@ pub fn check() -> Result<(), String> {
         tried.push((plan_text(&network.file()), said));
         tried.push((plan_text(&widened(r, &network.file())), said));
     }
-    tried.extend(wide_refusals().into_iter().map(|(bytes, said)| (plan_text(&bytes), said)));
+    tried.extend(edited().into_iter().map(|(bytes, said)| (plan_text(&bytes), said)));
     for (network, steps, said) in marks() {
         let input = [network.file(), plan_file(&steps)].concat();
         tried.push((mark_text(&input), said));

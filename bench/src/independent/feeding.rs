@@ -1,7 +1,8 @@
 //! Nodes fed from live ones over closed switches, and what every element on the way can bear besides.
 //!
-//! A node is viewed from the element where it is fed. Elements of a view with the same switches behind them bear the same loads besides their
-//! own, so one joint stands for them all, and has the least of what they can bear. Loads go from joint to joint up to a source.
+//! A node is viewed from the element where it is fed. Elements of a view with the same switches behind them bear the
+//! same loads besides their own, so one joint stands for them all, and has the least of what they can bear. Loads go
+//! from joint to joint up to a source.
 use super::accepted::{Accepted, SWITCHES};
 use super::bits;
 use super::nodes::{Nodes, Switch, NODES};
@@ -57,7 +58,8 @@ impl<'a> Feeding<'a> {
         let nodes = Nodes::of(accepted, links);
         let lumped = Lumped::of(accepted, &nodes);
         let (joints, views) = (Vec::with_capacity(USUAL), Vec::with_capacity(USUAL));
-        let mut feeding = Feeding { accepted, nodes, lumped, joints, gates: 0, views, seen: [[UNSEEN; 2]; SWITCHES], view: [0; NODES] };
+        let (seen, view) = ([[UNSEEN; 2]; SWITCHES], [0; NODES]);
+        let mut feeding = Feeding { accepted, nodes, lumped, joints, gates: 0, views, seen, view };
         for node in bits(feeding.nodes.live as u128) {
             let source = feeding.nodes.parts[node] & accepted.network.sound;
             feeding.view[node] = feeding.look_from(node, source.trailing_zeros() as usize, u16::MAX);
@@ -166,7 +168,8 @@ impl<'a> Feeding<'a> {
         (left >= 0).then_some((load, joint))
     }
 
-    /// The joint of an element where these switches stand, over these joints: a new one where it is no single other one's.
+    /// The joint of an element where these switches stand, over these joints: a new one where it is no single other
+    /// one's.
     fn over(&mut self, view: usize, switches: u16, below: &[u16]) -> u16 {
         if switches == 0 && below.len() <= 1 {
             return below.first().copied().unwrap_or(NO_JOINT);

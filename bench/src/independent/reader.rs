@@ -19,7 +19,8 @@ pub struct Reader<'a> {
     at: usize,
 }
 
-/// A record's words behind its length and its kind, and the offset of its first byte. A field of four bytes is two words.
+/// A record's words behind its length and its kind, and the offset of its first byte. A field of four bytes is two
+/// words.
 pub struct Record<const WORDS: usize> {
     pub words: [u16; WORDS],
     place: usize,

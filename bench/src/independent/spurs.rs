@@ -1,4 +1,5 @@
-//! Loads with spurs lumped: what hangs behind an element without a switch on its way never changes, so it counts as the element's own load.
+//! Loads with spurs lumped: what hangs behind an element without a switch on its way never changes, so it counts as
+//! the element's own load.
 use super::accepted::Accepted;
 use super::bits;
 use super::network::{Network, ELEMENTS};

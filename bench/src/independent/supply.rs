@@ -1,7 +1,8 @@
 //! What the live nodes can still supply to the switches that lead on.
 //!
-//! A gate is a joint of a live node. It takes in no more than it can bear besides, and if no switch that hangs at it leads on, no more than the
-//! gates behind it take in. If the sources take in less than what waits, no tree grown further feeds everything.
+//! A gate is a joint of a live node. It takes in no more than it can bear besides, and if no switch that hangs at it
+//! leads on, no more than the gates behind it take in. If the sources take in less than what waits, no tree grown
+//! further feeds everything.
 use super::bits;
 use super::feeding::{Feed, Feeding, NO_JOINT};
 use super::nodes::NODES;
