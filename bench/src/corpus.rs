@@ -15,7 +15,6 @@ const BRIEF: usize = 2430;
 const MIDDLE: usize = 100;
 const TWELVE: usize = 40;
 const LARGE: usize = 24;
-
 const LONGEST: usize = 6;
 
 /// Every kind of reply and of mark occurs at least so often: in all, with wide elements, and rules at a wide element.
