@@ -4,7 +4,7 @@ fn main() {
     if std::env::var_os("CARGO_FEATURE_LIBRARY").is_none() {
         return;
     }
-    let library = std::env::var("TAMCHUWE_LIB").expect("set TAMCHUWE_LIB to the folder of libtamchuwe.a; bench/run does");
+    let library = std::env::var("TAMCHUWE_LIB").expect("bench/run sets TAMCHUWE_LIB to the folder of libtamchuwe.a");
     println!("cargo:rustc-link-arg-bin=bench={library}/libtamchuwe.a");
     println!("cargo:rerun-if-changed={library}/libtamchuwe.a");
 }

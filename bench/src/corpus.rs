@@ -1,22 +1,26 @@
 //! The stored corpus: networks with submitted plans, and what the enumeration prints for them.
 use crate::comparison::Answers;
-use crate::counts::Counts;
-use crate::draft::Draft;
+use crate::coverage::{listed, Coverage, Each};
+use crate::draft::{plan_file, Draft};
 use crate::independent::{self, SWITCHES};
 use crate::inputs;
 use crate::items::{item, large, Item};
+use crate::longest;
 use crate::random::Random;
 use crate::tried;
 use std::path::Path;
 
 const SEED: u64 = 20_261_117;
-const BRIEF: usize = 2500;
+const BRIEF: usize = 2430;
 const MIDDLE: usize = 100;
 const TWELVE: usize = 40;
 const LARGE: usize = 24;
+const LONGEST: usize = 6;
 
-/// Every kind of reply and of mark occurs at least so often.
-const LEAST: u64 = 50;
+/// Every kind of reply and of mark occurs at least so often: in all, with wide elements, and rules at a wide element.
+const LEAST: Each<u64> = [50, 25, 12];
+/// At least so many networks have as many operable switches as there may be.
+const LEAST_TWELVE: usize = 50;
 /// So many items are drawn at most for kinds that are too rare.
 const DRAWN: usize = 1_000_000;
 
@@ -25,12 +29,12 @@ const DRAWN: usize = 1_000_000;
 struct Corpus {
     items: Vec<Item>,
     printed: Vec<u8>,
-    counts: Counts,
+    coverage: Coverage,
 }
 
 impl Corpus {
     fn add(&mut self, item: Item, answers: &Answers) {
-        answers.count(&mut self.counts);
+        answers.count(&item, &mut self.coverage);
         self.printed.extend(answers.reply.bytes());
         answers.marks.iter().for_each(|mark| self.printed.extend(mark.bytes()));
         self.items.push(item);
@@ -38,40 +42,54 @@ impl Corpus {
 
     fn draw(&mut self, r: &mut Random, count: usize, network: fn(&mut Random) -> Draft) -> Result<(), String> {
         for _ in 0..count {
-            let item = item(r, network);
-            let answers = Answers::of(&item)?;
-            self.add(item, &answers);
+            self.add_item(item(r, network))?;
+        }
+        Ok(())
+    }
+
+    fn add_item(&mut self, item: Item) -> Result<(), String> {
+        let answers = Answers::of(&item)?;
+        self.add(item, &answers);
+        Ok(())
+    }
+
+    /// Networks with plans of the longest lengths that are accepted.
+    fn draw_longest(&mut self, r: &mut Random) -> Result<(), String> {
+        for _ in 0..LONGEST {
+            let network = longest::network(r).file();
+            let plan = plan_file(&longest::steps(r, &network));
+            self.add_item(Item { network, plans: vec![plan] })?;
         }
         Ok(())
     }
 
     /// Draws on, and keeps what gets a reply or a mark of a kind that is still rare.
     fn fill(&mut self, r: &mut Random) -> Result<(), String> {
-        let mut rare = self.counts.fewer_than(LEAST);
+        let mut rare = self.coverage.fewer_than(LEAST);
         for _ in 0..DRAWN {
-            if rare.is_empty() {
+            if rare.iter().all(Vec::is_empty) {
                 return Ok(());
             }
             let item = item(r, inputs::brief);
             let answers = Answers::of(&item)?;
-            let mut counts = Counts::default();
-            answers.count(&mut counts);
-            if counts.has_any(&rare) {
+            let mut coverage = Coverage::default();
+            answers.count(&item, &mut coverage);
+            if coverage.has_any(&rare) {
                 self.add(item, &answers);
-                rare = self.counts.fewer_than(LEAST);
+                rare = self.coverage.fewer_than(LEAST);
             }
         }
-        Err(format!("{}occurred less than {LEAST} times: {}", self.counts, rare.join(", ")))
+        Err(format!("{}occurred too rarely: {}", self.coverage, listed(&rare)))
     }
 
     fn report(&self) -> Result<(), String> {
         let plans: usize = self.items.iter().map(|item| item.plans.len()).sum();
-        let widest = self.items.iter().filter(|item| is_widest(&item.network)).count();
-        print!("{}", self.counts);
-        println!("{} networks, {widest} with {SWITCHES} operable switches, {plans} plans", self.items.len());
+        let twelve = self.items.iter().filter(|item| has_twelve(&item.network)).count();
+        print!("{}", self.coverage);
+        println!("{} networks, {twelve} with {SWITCHES} operable switches, {plans} plans", self.items.len());
         println!("{} bytes in, {} bytes out, 0 differences", self.stdin().len(), self.printed.len());
-        if (widest as u64) < LEAST {
-            return Err(format!("fewer than {LEAST} networks have {SWITCHES} operable switches"));
+        if twelve < LEAST_TWELVE {
+            return Err(format!("fewer than {LEAST_TWELVE} networks have {SWITCHES} operable switches"));
         }
         Ok(())
     }
@@ -95,29 +113,31 @@ fn put_part(bytes: &mut Vec<u8>, part: &[u8]) {
 }
 
 /// Whether a network has as many operable switches as there may be.
-fn is_widest(network: &[u8]) -> bool {
+fn has_twelve(network: &[u8]) -> bool {
     independent::accept(network).is_ok_and(|accepted| accepted.start.operable.count_ones() as usize == SWITCHES)
 }
 
 /// A network of any shape that has so many.
-fn widest(r: &mut Random) -> Draft {
+fn twelve(r: &mut Random) -> Draft {
     loop {
         let draft = inputs::network(r);
-        if is_widest(&draft.file()) {
+        if has_twelve(&draft.file()) {
             return draft;
         }
     }
 }
 
-/// Writes `stdin` and `stdout` into a folder, once the enumeration says of the tried networks what document 01 does.
+/// Writes `stdin` and `stdout` into a folder, once the enumeration says of the tried networks what the
+/// documents do.
 pub fn write(folder: &Path) -> Result<(), String> {
     tried::check()?;
     let mut r = Random::new(SEED);
     let mut corpus = Corpus::default();
     corpus.draw(&mut r, BRIEF, inputs::brief)?;
     corpus.draw(&mut r, MIDDLE, inputs::network)?;
-    corpus.draw(&mut r, TWELVE, widest)?;
+    corpus.draw(&mut r, TWELVE, twelve)?;
     corpus.draw(&mut r, LARGE, large)?;
+    corpus.draw_longest(&mut r)?;
     corpus.fill(&mut r)?;
     put_file(folder, "stdin", &corpus.stdin())?;
     put_file(folder, "stdout", &corpus.printed)?;

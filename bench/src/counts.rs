@@ -30,6 +30,13 @@ impl Counts {
         [PLANNER, JUDGE].into_iter().flat_map(kinds).filter(|kind| self.of(kind) < least).collect()
     }
 
+    /// How often either program refused by each of these rules.
+    pub fn refusals<'a>(&'a self, rules: &'a [u64]) -> impl Iterator<Item = (String, u64)> + 'a {
+        let refusal = |program| move |rule: &u64| format!("{program} REFUSED {rule}");
+        let kinds = [PLANNER, JUDGE].into_iter().flat_map(move |program| rules.iter().map(refusal(program)));
+        kinds.map(|kind| (kind.clone(), self.of(&kind)))
+    }
+
     pub fn has_any(&self, kinds: &[String]) -> bool {
         kinds.iter().any(|kind| self.of(kind) > 0)
     }

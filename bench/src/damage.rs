@@ -1,5 +1,7 @@
 //! Damaged inputs.
+use crate::element_damage::damage_element;
 use crate::random::Random;
+use crate::records::{records, records_of};
 use std::ops::Range;
 
 const EDGES: [u16; 21] = [0, 0, 0, 1, 2, 3, 4, 5, 6, 63, 64, 65, 95, 96, 97, 255, 256, 256, 257, 65535, 65535];
@@ -18,7 +20,8 @@ fn damage(r: &mut Random, file: &mut Vec<u8>) {
     match r.below(100) {
         0..8 => change_byte(r, file),
         8..14 => change_word(r, file),
-        14..58 => change_field(r, file),
+        14..48 => change_field(r, file),
+        48..58 => damage_element(r, file),
         58..67 => file.truncate(r.below(file.len())),
         67..74 => append(r, file),
         74..79 => drop_record(r, file),
@@ -46,21 +49,6 @@ fn change_word(r: &mut Random, file: &mut [u8]) {
     put_edge(r, file, at);
 }
 
-/// The records, as far as their lengths make sense.
-fn records(file: &[u8]) -> Vec<Range<usize>> {
-    let mut found = vec![];
-    let mut at = 0;
-    while at + 4 <= file.len() {
-        let length = u16::from_le_bytes([file[at], file[at + 1]]) as usize;
-        if length < 4 || at + length > file.len() {
-            break;
-        }
-        found.push(at..at + length);
-        at += length;
-    }
-    found
-}
-
 fn any_record(r: &mut Random, file: &[u8]) -> Range<usize> {
     let found = records(file);
     if found.is_empty() {
@@ -71,8 +59,8 @@ fn any_record(r: &mut Random, file: &[u8]) -> Range<usize> {
 
 /// A record of a kind drawn first, so that heads are drawn as often as links and steps more often.
 fn record_of_a_kind(r: &mut Random, file: &[u8]) -> Range<usize> {
-    let kind = r.pick(&[1, 2, 3, 3, 5, 6, 6]);
-    let found: Vec<Range<usize>> = records(file).into_iter().filter(|record| file[record.start + 2] == kind).collect();
+    let kind = r.pick(&[1, 2, 3, 3, 5, 6, 6, 7]);
+    let found = records_of(file, kind);
     if found.is_empty() {
         return any_record(r, file);
     }
@@ -95,7 +83,7 @@ fn change_front(r: &mut Random, file: &mut [u8], field: usize) {
     if at + 2 > file.len() {
         return;
     }
-    let number = r.pick(&[0, 1, 2, 3, 4, 5, 6, 7, 8, 10, 12, 256, 258, 65535]);
+    let number = r.pick(&[0, 1, 2, 3, 4, 5, 6, 7, 7, 8, 10, 12, 14, 256, 258, 263, 65535]);
     file[at..at + 2].copy_from_slice(&u16::to_le_bytes(number));
 }
 

@@ -1,12 +1,15 @@
-//! The proved functions beside the independent ones on random inputs: every printed byte, every value, and every byte of the lent buffers.
+//! The proved functions beside the independent ones on random inputs: every printed byte, every value, and every byte
+//! of the lent buffers.
 use crate::library;
-use bench::counts::Counts;
+use bench::coverage::{listed, Coverage, Each};
 use bench::draft::plan_file;
 use bench::hard;
 use bench::independent::{self, Mark, Reply};
 use bench::inputs::input;
 use bench::plans;
 use bench::random::Random;
+use bench::wide;
+use bench::widening::{self, widened};
 use std::fmt::Debug;
 
 /// What a lent buffer holds before a call; no line and no plan file has this byte.
@@ -17,11 +20,17 @@ const MORE: usize = 200;
 /// What values hold before a call: a number that no reply has, so that one left unwritten shows.
 const UNWRITTEN: u64 = u64::MAX;
 
-/// Of so many inputs, every kind of reply and mark must occur.
+/// Of so many inputs, every kind of reply and mark must occur, with wide elements too.
 const ENOUGH: usize = 20_000;
+const LEAST: Each<u64> = [1, 1, 1];
+/// One input of so many is compared once more with narrow elements rewritten as wide ones.
+const WIDENED: usize = 4;
 
 /// What differed, and what each side gave.
 type Difference = String;
+
+/// Draws an input.
+type Draw = fn(&mut Random) -> Vec<u8>;
 
 /// Compares on so many inputs, and on a tenth as many networks that are hard to plan.
 pub fn run(seed: u64, count: usize) -> Result<(), String> {
@@ -29,34 +38,57 @@ pub fn run(seed: u64, count: usize) -> Result<(), String> {
         return Err("null with length 0 is not taken as the empty input".into());
     }
     let mut r = Random::new(seed);
-    let mut counts = Counts::default();
-    compare_all(&mut r, seed, count, input, &mut counts)?;
-    print!("{counts}");
-    compare_all(&mut r, seed, count / 10, hard_input, &mut Counts::default())?;
+    let mut coverage = Coverage::default();
+    compare_all(&mut r, seed, count, input, &mut coverage)?;
+    print!("{coverage}");
+    compare_all(&mut r, seed, count / 10, hard_input, &mut Coverage::default())?;
     println!("{count} inputs and {} hard networks, seed {seed}: 0 differences", count / 10);
-    let missing = counts.fewer_than(1);
-    if count >= ENOUGH && !missing.is_empty() {
-        return Err(format!("never occurred: {}", missing.join(", ")));
+    let missing = coverage.fewer_than(LEAST);
+    if count >= ENOUGH && missing.iter().any(|kinds| !kinds.is_empty()) {
+        return Err(format!("never occurred: {}", listed(&missing)));
     }
     Ok(())
 }
 
 /// Compares on so many inputs that are drawn; on a difference says all that is needed to see it again.
-fn compare_all(r: &mut Random, seed: u64, count: usize, draw: fn(&mut Random) -> Vec<u8>, counts: &mut Counts) -> Result<(), String> {
+fn compare_all(r: &mut Random, seed: u64, count: usize, draw: Draw, coverage: &mut Coverage) -> Result<(), String> {
     for number in 1..=count {
         let input = draw(r);
         let room = r.below(60);
-        compare(&input, room, counts).map_err(|difference| {
-            let hex: String = input.iter().map(|byte| format!("{byte:02x}")).collect();
-            format!("difference at seed {seed}, input {number} of {} bytes:\n{hex}\n{difference}", input.len())
-        })?;
+        let mut found = shown(&input, compare(&input, room, coverage));
+        if r.one_in(WIDENED) {
+            let wider = widened(r, &input);
+            found = found.and_then(|()| shown(&wider, compare_widened(&input, &wider, room)));
+        }
+        found.map_err(|difference| format!("difference at seed {seed}, input {number}, {difference}"))?;
+    }
+    Ok(())
+}
+
+/// A difference behind the input that it was found on.
+fn shown(input: &[u8], found: Result<(), Difference>) -> Result<(), Difference> {
+    found.map_err(|difference| {
+        let hex: String = input.iter().map(|byte| format!("{byte:02x}")).collect();
+        format!("{} bytes:\n{hex}\n{difference}", input.len())
+    })
+}
+
+/// All comparisons on a widened input, for which the same must be printed as before.
+fn compare_widened(input: &[u8], wider: &[u8], room: usize) -> Result<(), Difference> {
+    compare(wider, room, &mut Coverage::default())?;
+    for print in [independent::plan_text, independent::mark_text] {
+        let (mut before, mut after) = (vec![], vec![]);
+        print(input, &mut before);
+        print(wider, &mut after);
+        widening::same(&String::from_utf8_lossy(&before), &String::from_utf8_lossy(&after))?;
     }
     Ok(())
 }
 
 /// A network that is hard to plan, or one with good steps behind it, for the judge.
 fn hard_input(r: &mut Random) -> Vec<u8> {
-    let mut file = hard::any(r).file();
+    let draft = hard::any(r);
+    let mut file = wide::mixed(r, draft).file();
     if r.one_in(2) {
         if let Ok(accepted) = independent::accept(&file) {
             file.extend(plan_file(&plans::good(r, &accepted, plans::MOST, false)));
@@ -66,7 +98,7 @@ fn hard_input(r: &mut Random) -> Vec<u8> {
 }
 
 /// All comparisons on one input; `room` is the size of one more plan buffer, of any length.
-fn compare(input: &[u8], room: usize, counts: &mut Counts) -> Result<(), Difference> {
+fn compare(input: &[u8], room: usize, coverage: &mut Coverage) -> Result<(), Difference> {
     let (mut plan_text, mut mark_text) = (vec![], vec![]);
     independent::plan_text(input, &mut plan_text);
     independent::mark_text(input, &mut mark_text);
@@ -84,8 +116,8 @@ fn compare(input: &[u8], room: usize, counts: &mut Counts) -> Result<(), Differe
         let what = format!("the mark, its count and its values in {places} places");
         same(&what, (proved, count, lent), (kind, values.len(), in_places(&values, places)))?;
     }
-    counts.add_reply(&plan_text);
-    counts.add_mark(&mark_text);
+    coverage.add_reply(input, &plan_text);
+    coverage.add_mark(input, &mark_text);
     Ok(())
 }
 

@@ -3,9 +3,20 @@ use crate::random::Random;
 
 #[derive(Clone, Copy)]
 pub struct Element {
-    pub load: u16,
-    pub capacity: u16,
+    pub load: u32,
+    pub capacity: u32,
     pub flags: u16,
+    /// whether its record is wide though its numbers fit a narrow one
+    pub wide: bool,
+}
+
+/// The most that a number of two bytes holds.
+pub const NARROW: u32 = u16::MAX as u32;
+
+impl Element {
+    pub fn is_wide(&self) -> bool {
+        self.wide || self.load.max(self.capacity) > NARROW
+    }
 }
 
 #[derive(Clone, Copy)]
@@ -26,8 +37,9 @@ pub struct Draft {
 }
 
 impl Draft {
-    pub fn add_element(&mut self, load: u16, capacity: u16, flags: u16) {
-        self.elements.push(Element { load, capacity, flags });
+    /// An element whose record is as narrow as its numbers let it be.
+    pub fn add_element(&mut self, load: u32, capacity: u32, flags: u16) {
+        self.elements.push(Element { load, capacity, flags, wide: false });
     }
 
     /// A link; a fixed one costs nothing whatever is given.
@@ -38,9 +50,7 @@ impl Draft {
     pub fn file(&self) -> Vec<u8> {
         let mut file = vec![];
         put(&mut file, &[8, 1, self.elements.len() as u16, self.links.len() as u16]);
-        for e in &self.elements {
-            put(&mut file, &[10, 2, e.load, e.capacity, e.flags]);
-        }
+        self.elements.iter().for_each(|element| put_element(&mut file, element));
         for l in &self.links {
             put(&mut file, &[12, 3, l.ends.0 as u16, l.ends.1 as u16, l.form, l.cost]);
         }
@@ -74,6 +84,15 @@ pub fn plan_file(steps: &[(usize, u16)]) -> Vec<u8> {
     file
 }
 
-pub fn put(file: &mut Vec<u8>, numbers: &[u16]) {
+/// An element's record: load and capacity have four bytes each in a wide one, else two.
+pub fn put_element(file: &mut Vec<u8>, element: &Element) {
+    let (kind, width) = if element.is_wide() { (7, 4) } else { (2, 2) };
+    put(file, &[6 + 2 * width as u16, kind]);
+    file.extend(&element.load.to_le_bytes()[..width]);
+    file.extend(&element.capacity.to_le_bytes()[..width]);
+    put(file, &[element.flags]);
+}
+
+fn put(file: &mut Vec<u8>, numbers: &[u16]) {
     numbers.iter().for_each(|n| file.extend(n.to_le_bytes()));
 }

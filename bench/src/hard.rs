@@ -1,4 +1,5 @@
-//! Large networks that are hard to plan: the sources suffice in all and every element bears its own load, so it mostly takes a search to decide.
+//! Large networks that are hard to plan: the sources suffice in all and every element bears its own load, so it
+//! mostly takes a search to decide.
 use crate::draft::Draft;
 use crate::independent::{self, Reply};
 use crate::plot::{Plot, Style};
@@ -9,11 +10,13 @@ use crate::random::Random;
 pub enum Tight {
     /// at its two or three sources: together they suffice, but the dark parts must be shared out among them
     Sources,
-    /// the same, with parts that are chains and have switches at their ends alone: hardly anything hangs by one link there
+    /// the same, with parts that are chains and have switches at their ends alone: hardly anything hangs by one link
+    /// there
     SourcesOfChains,
     /// at the branches behind its one source, which suffices: only a walk over the loads shows where too much hangs
     Branches,
-    /// in the dark, where parts bear little besides their own load: a part must not be fed over too many others, whatever the source can bear
+    /// in the dark, where parts bear little besides their own load: a part must not be fed over too many others,
+    /// whatever the source can bear
     Passages,
 }
 
@@ -24,12 +27,13 @@ pub enum Costs {
     Mixed,
     /// all the same: many sets are equally dear, and a search can't stop by cost before it has the last of its closings
     Equal,
-    /// most for the closings of a plan, which stand last in the file too: cheaper sets and earlier ones fail first, and the plan is found late
+    /// most for the closings of a plan, which stand last in the file too: cheaper sets and earlier ones fail first,
+    /// and the plan is found late
     Late,
 }
 
 /// Loads of dark parts are multiples of this.
-const UNIT: u16 = 20;
+const UNIT: u32 = 20;
 /// What a closing of a late plan costs: more than any other switch.
 const DEAR: u16 = 12;
 
@@ -93,13 +97,13 @@ fn late(mut draft: Draft) -> Draft {
 fn round(r: &mut Random, plot: &mut Plot) {
     for part in plot.parts[plot.sources..].to_vec() {
         let load = plot.load_of(&part);
-        let units = load.div_ceil(UNIT) + r.below(3) as u16;
+        let units = load.div_ceil(UNIT) + r.below(3) as u32;
         plot.draft.elements[r.pick(&part)].load += units * UNIT - load;
     }
 }
 
 /// A live element that bounds what may be fed behind it, and the load behind it at the start.
-type Bound = (usize, u16);
+type Bound = (usize, u32);
 
 /// The sources.
 fn whole_parts(plot: &Plot) -> Vec<Bound> {
@@ -118,14 +122,15 @@ fn branches(plot: &Plot) -> Vec<Bound> {
     plot.parts[0][1..].iter().filter(|&&e| branch[e] == e).map(|&e| (e, plot.load_of(&behind(e)))).collect()
 }
 
-/// Shares the dark load out in units, and a rest less than a unit to each. If `short`, a unit is missing, which the rests make up for in all.
+/// Shares the dark load out in units, and a rest less than a unit to each. If `short`, a unit is missing, which the
+/// rests make up for in all.
 fn share(r: &mut Random, plot: &mut Plot, bounds: fn(&Plot) -> Vec<Bound>, short: bool) {
     let (bounds, dark) = (bounds(plot), plot.parts[plot.sources..].concat());
-    let mut units = plot.load_of(&dark) / UNIT - short as u16;
+    let mut units = plot.load_of(&dark) / UNIT - short as u32;
     for (i, &(element, load)) in bounds.iter().enumerate() {
         let others = bounds.len() - i - 1;
-        let own = if others == 0 { units } else { units * r.from(2, 4) as u16 / (2 + 3 * others as u16).max(4) };
-        let rest = r.from(if short { UNIT as usize / 2 } else { 0 }, UNIT as usize - 1) as u16;
+        let own = if others == 0 { units } else { units * r.from(2, 4) as u32 / (2 + 3 * others as u32).max(4) };
+        let rest = r.from(if short { UNIT as usize / 2 } else { 0 }, UNIT as usize - 1) as u32;
         plot.draft.elements[element].capacity = load + own * UNIT + rest;
         units -= own;
     }
@@ -134,7 +139,7 @@ fn share(r: &mut Random, plot: &mut Plot, bounds: fn(&Plot) -> Vec<Bound>, short
 /// Lets each dark part bear its own load and a few units besides.
 fn narrow(r: &mut Random, plot: &mut Plot) {
     for part in plot.parts[plot.sources..].to_vec() {
-        let most = plot.load_of(&part) + UNIT * r.below(9) as u16;
+        let most = plot.load_of(&part) + UNIT * r.below(9) as u32;
         part.iter().for_each(|&e| plot.draft.elements[e].capacity = most);
     }
 }

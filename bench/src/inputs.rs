@@ -1,27 +1,39 @@
 //! The inputs that planner and judge are compared on.
+use crate::brim;
 use crate::damage::{damaged, random_bytes};
 use crate::draft::{plan_file, Draft};
+use crate::heavy;
+use crate::independent::ELEMENTS;
+use crate::longest;
 use crate::networks::{self, Kind};
 use crate::plans;
 use crate::random::Random;
 use crate::regions;
+use crate::wide;
 
-pub const LONGEST: usize = 9000;
+/// More bytes than those that decide.
+pub const LONGEST: usize = 12_000;
 
 /// A network of any shape.
 pub fn network(r: &mut Random) -> Draft {
-    if r.one_in(4) {
-        return regions::network(r);
-    }
-    networks::network(r)
+    let draft = match r.below(40) {
+        0 => return brim::network(r),
+        1 => return heavy::network(r, ELEMENTS),
+        2..12 => regions::network(r),
+        _ => networks::network(r),
+    };
+    wide::mixed(r, draft)
 }
 
 /// A small network of any shape that can be small.
 pub fn brief(r: &mut Random) -> Draft {
-    if r.one_in(4) {
-        return regions::brief(r);
-    }
-    networks::brief(r)
+    let draft = match r.below(40) {
+        0 => return brim::network(r),
+        1 => return heavy::network(r, 6),
+        2..12 => regions::brief(r),
+        _ => networks::brief(r),
+    };
+    wide::mixed(r, draft)
 }
 
 /// Networks, networks with a plan behind, and damaged ones.
@@ -40,6 +52,7 @@ pub fn input(r: &mut Random) -> Vec<u8> {
         980..985 => random_bytes(r, 60),
         985..988 => random_bytes(r, LONGEST),
         988..992 => long(r),
+        992..994 => longest::input(r),
         _ => large(r),
     }
 }
@@ -83,7 +96,8 @@ fn either(r: &mut Random, network: fn(&mut Random) -> Draft) -> Vec<u8> {
 /// The largest networks, alone or with a plan.
 fn large(r: &mut Random) -> Vec<u8> {
     let kind = r.pick(&[Kind::SmallElement, Kind::SmallSources, Kind::Planned, Kind::Planned]);
-    let file = networks::large(r, kind).file();
+    let draft = networks::large(r, kind);
+    let file = wide::mixed(r, draft).file();
     if r.one_in(2) {
         return behind(r, file);
     }
@@ -91,7 +105,7 @@ fn large(r: &mut Random) -> Vec<u8> {
 }
 
 /// A file with thousands of bytes behind it.
-fn long(r: &mut Random) -> Vec<u8> {
+pub fn long(r: &mut Random) -> Vec<u8> {
     let mut file = either(r, network);
     let length = r.from(file.len() + 1, LONGEST);
     let filler = file.clone();

@@ -7,9 +7,10 @@ use crate::inputs::brief_input;
 use crate::networks::{self, Kind};
 use crate::plans;
 use crate::random::Random;
+use crate::wide;
 
 /// More bytes of an input decide nothing: what `DECIDING_BYTES` of the crate `streams` is.
-const DECIDING_BYTES: usize = 4096;
+pub const DECIDING_BYTES: usize = 8192;
 
 /// A network part, and the plan parts that come behind it one at a time.
 pub struct Item {
@@ -78,9 +79,7 @@ fn whole(r: &mut Random) -> Item {
 
 /// The largest networks, and such as are hard to plan.
 pub fn large(r: &mut Random) -> Draft {
-    if r.one_in(2) {
-        return hard::any(r);
-    }
     let kind = r.pick(&[Kind::SmallElement, Kind::SmallSources, Kind::Planned]);
-    networks::large(r, kind)
+    let draft = if r.one_in(2) { hard::any(r) } else { networks::large(r, kind) };
+    wide::mixed(r, draft)
 }

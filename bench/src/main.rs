@@ -1,4 +1,5 @@
-//! The proved planner and judge, from the static library, beside independent ones: equal replies, the ratio of their times, the stack they need.
+//! The proved planner and judge, from the static library, beside independent ones: equal replies, the ratio of their
+//! times, the stack they need.
 mod differential;
 mod library;
 mod stack;

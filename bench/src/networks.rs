@@ -1,5 +1,5 @@
 //! Random networks of many shapes.
-use crate::draft::{Draft, CLOSED, FIXED, OPEN};
+use crate::draft::{Draft, CLOSED, FIXED, NARROW, OPEN};
 use crate::independent::{self, ELEMENTS, LINKS, SWITCHES};
 use crate::random::Random;
 
@@ -49,7 +49,7 @@ fn tiny(r: &mut Random) -> Draft {
     let n = r.from(1, 3);
     for _ in 0..n {
         let flags = r.pick(&[0, 0, 0, 1, 1, 2, 3]);
-        draft.add_element(r.below(3) as u16, r.below(5) as u16, flags);
+        draft.add_element(r.below(3) as u32, r.below(5) as u32, flags);
     }
     for _ in 0..if n > 1 { r.below(5) } else { 0 } {
         let (form, cost) = (r.below(3) as u16, cost(r, 3));
@@ -58,7 +58,7 @@ fn tiny(r: &mut Random) -> Draft {
     draft
 }
 
-fn two_of(r: &mut Random, n: usize) -> (usize, usize) {
+pub fn two_of(r: &mut Random, n: usize) -> (usize, usize) {
     let a = r.below(n);
     let b = r.below(n - 1);
     (a, if b < a { b } else { b + 1 })
@@ -74,7 +74,7 @@ fn scattered_of(r: &mut Random, most: usize) -> Draft {
     let mut draft = Draft::default();
     for e in 0..n {
         let flags = if e == 0 { 1 } else { r.pick(&[0, 0, 0, 0, 0, 0, 1, 1, 2, 3]) };
-        draft.add_element(r.below(4) as u16, r.below(12) as u16, flags);
+        draft.add_element(r.below(4) as u32, r.below(12) as u32, flags);
     }
     let most = dearest(r);
     for _ in 0..r.below(2 * n) {
@@ -101,26 +101,59 @@ struct Shape {
 }
 
 fn grown_brief(r: &mut Random) -> Draft {
-    let shape = Shape { elements: r.from(3, 6), sources: r.from(1, 2), dark: r.from(1, 3), faults: r.below(2), ties: r.from(1, 5), switches: 2, others: r.below(2) };
+    let shape = Shape {
+        elements: r.from(3, 6),
+        sources: r.from(1, 2),
+        dark: r.from(1, 3),
+        faults: r.below(2),
+        ties: r.from(1, 5),
+        switches: 2,
+        others: r.below(2),
+    };
     grown(r, shape)
 }
 
 fn grown_small(r: &mut Random) -> Draft {
-    let shape = Shape { elements: r.from(4, 12), sources: r.from(1, 3), dark: r.from(1, 5), faults: r.below(3), ties: r.from(1, 8), switches: 3, others: r.below(4) };
+    let shape = Shape {
+        elements: r.from(4, 12),
+        sources: r.from(1, 3),
+        dark: r.from(1, 5),
+        faults: r.below(3),
+        ties: r.from(1, 8),
+        switches: 3,
+        others: r.below(4),
+    };
     grown(r, shape)
 }
 
 fn grown_middle(r: &mut Random) -> Draft {
-    let shape = Shape { elements: r.from(12, 40), sources: r.from(1, 4), dark: r.from(1, 7), faults: r.below(3), ties: r.from(3, 10), switches: 9, others: r.below(12) };
+    let shape = Shape {
+        elements: r.from(12, 40),
+        sources: r.from(1, 4),
+        dark: r.from(1, 7),
+        faults: r.below(3),
+        ties: r.from(3, 10),
+        switches: 9,
+        others: r.below(12),
+    };
     grown(r, shape)
 }
 
 fn grown_large(r: &mut Random) -> Draft {
-    let shape = Shape { elements: ELEMENTS, sources: r.from(1, 5), dark: r.from(2, 8), faults: r.below(3), ties: r.from(5, 11), switches: 30, others: LINKS };
+    let shape = Shape {
+        elements: ELEMENTS,
+        sources: r.from(1, 5),
+        dark: r.from(2, 8),
+        faults: r.below(3),
+        ties: r.from(5, 11),
+        switches: 30,
+        others: LINKS,
+    };
     grown(r, shape)
 }
 
-/// Trees around sources and in the dark, then open switches between them; a source bears its own tree and some of the dark load.
+/// Trees around sources and in the dark, then open switches between them; a source bears its own tree and some of the
+/// dark load.
 fn grown(r: &mut Random, shape: Shape) -> Draft {
     let mut draft = Draft::default();
     let groups = (shape.sources + shape.dark).min(shape.elements);
@@ -128,7 +161,7 @@ fn grown(r: &mut Random, shape: Shape) -> Draft {
     let mut members: Vec<Vec<usize>> = vec![vec![]; groups];
     for e in 0..shape.elements {
         let group = if e < groups { e } else { r.below(groups) };
-        draft.add_element(r.below(loads) as u16, 0, (e < shape.sources) as u16);
+        draft.add_element(r.below(loads) as u32, 0, (e < shape.sources) as u16);
         if e >= groups {
             let switch = if group < shape.sources { r.one_in(2) } else { r.one_in(shape.switches) };
             let (near, cost) = (r.pick(&members[group]), cost(r, most));
@@ -184,7 +217,7 @@ fn rate(r: &mut Random, draft: &mut Draft, members: &[Vec<usize>], sources: usiz
         let tight = r.one_in(4);
         for &e in group {
             let more = if tight { r.below(slack as usize + 1) as u64 } else { slack };
-            draft.elements[e].capacity = (own + more).min(65535) as u16;
+            draft.elements[e].capacity = (own + more).min(NARROW as u64) as u32;
         }
     }
 }
@@ -194,10 +227,10 @@ fn split(r: &mut Random) -> Draft {
     let (chain, sources, most) = (r.from(2, 5), r.from(2, 3), dearest(r));
     let mut draft = Draft::default();
     for _ in 0..chain {
-        draft.add_element(r.from(1, 2) as u16, 20, r.pick(&[0, 0, 0, 0, 0, 0, 0, 2]));
+        draft.add_element(r.from(1, 2) as u32, 20, r.pick(&[0, 0, 0, 0, 0, 0, 0, 2]));
     }
     for s in 0..sources {
-        draft.add_element(0, r.from(1, chain) as u16, 1);
+        draft.add_element(0, r.from(1, chain) as u32, 1);
         let (at, cost) = (if s < 2 { s * (chain - 1) } else { r.below(chain) }, cost(r, most));
         draft.add_link((chain + s, at), OPEN, cost);
     }
@@ -228,7 +261,8 @@ fn parallel(r: &mut Random) -> Draft {
     let (n, most) = (r.from(2, 4), dearest(r));
     let mut draft = Draft::default();
     for e in 0..n {
-        draft.add_element(r.below(3) as u16, r.from(3, 9) as u16, if e == 0 { 1 } else { r.pick(&[0, 0, 0, 0, 1, 2]) });
+        let (load, capacity) = (r.below(3) as u32, r.from(3, 9) as u32);
+        draft.add_element(load, capacity, if e == 0 { 1 } else { r.pick(&[0, 0, 0, 0, 1, 2]) });
     }
     for e in 1..n {
         for _ in 0..r.from(1, if n == 2 { 13 } else { 3 }) {
@@ -249,11 +283,11 @@ fn star(r: &mut Random) -> Draft {
 
 /// A source with an open switch to each of its dark buses.
 fn star_of(r: &mut Random, buses: usize) -> Draft {
-    let (most, small) = (dearest(r), r.one_in(3) as u16);
+    let (most, small) = (dearest(r), r.one_in(3) as u32);
     let mut draft = Draft::default();
-    draft.add_element(0, buses as u16 - small, 1);
+    draft.add_element(0, buses as u32 - small, 1);
     for bus in 1..=buses {
-        draft.add_element(r.from(1 - small as usize, 1) as u16, 1, 0);
+        draft.add_element(r.from(1 - small as usize, 1) as u32, 1, 0);
         let cost = cost(r, most);
         draft.add_link((0, bus), OPEN, cost);
     }
@@ -300,7 +334,7 @@ fn overloaded(r: &mut Random) -> Draft {
     let mut draft = grown_brief(r);
     for element in &mut draft.elements {
         if r.one_in(3) {
-            element.capacity = r.below(4) as u16;
+            element.capacity = r.below(4) as u32;
         }
     }
     draft
@@ -324,7 +358,7 @@ pub fn large(r: &mut Random, kind: Kind) -> Draft {
     let mut draft = Draft::default();
     let mut members: Vec<Vec<usize>> = vec![vec![]; groups];
     for e in 0..ELEMENTS {
-        draft.add_element(r.below(5) as u16, 2000, (e < sources) as u16);
+        draft.add_element(r.below(5) as u32, 2000, (e < sources) as u16);
         let group = if e < groups { e } else { r.below(groups) };
         if !members[group].is_empty() {
             draft.add_link((r.pick(&members[group]), e), FIXED, 0);
@@ -359,8 +393,8 @@ fn limit(draft: &mut Draft, kind: Kind, sources: usize, last: usize) {
             draft.elements[last].capacity = 8;
         }
         Kind::SmallSources => {
-            let total: u16 = draft.elements.iter().map(|e| e.load).sum();
-            (0..sources).for_each(|e| draft.elements[e].capacity = total / sources as u16 - 1);
+            let total: u32 = draft.elements.iter().map(|e| e.load).sum();
+            (0..sources).for_each(|e| draft.elements[e].capacity = total / sources as u32 - 1);
         }
         Kind::Planned => {}
     }

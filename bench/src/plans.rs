@@ -140,7 +140,8 @@ fn safe_or_not(r: &mut Random, accepted: &Accepted) -> Vec<Step> {
     steps
 }
 
-/// Good steps drawn one by one, at most that many; `may_stop` says whether they may end once every restorable element is live.
+/// Good steps drawn one by one, at most that many; `may_stop` says whether they may end once every restorable element
+/// is live.
 pub fn good(r: &mut Random, accepted: &Accepted, most: usize, may_stop: bool) -> Vec<Step> {
     let operable: Vec<usize> = independent::bits(accepted.start.operable).collect();
     let mut trial = Trial::new(accepted);

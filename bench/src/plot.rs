@@ -1,7 +1,8 @@
 //! A large network that is being drawn: 64 elements, 96 links, 12 operable switches, ample capacities.
 //!
-//! The operable switches are placed so that many sets of them feed everything: with all live parts taken as one, such a set leaves a spanning tree
-//! of the parts closed, so switches are moved as long as that makes more spanning trees. There are some 400 at most.
+//! The operable switches are placed so that many sets of them feed everything: with all live parts taken as one, such
+//! a set leaves a spanning tree of the parts closed, so switches are moved as long as that makes more spanning trees.
+//! There are some 400 at most.
 use crate::draft::{Draft, CLOSED, FIXED, OPEN};
 use crate::independent::{ELEMENTS, LINKS, SWITCHES};
 use crate::random::Random;
@@ -26,7 +27,7 @@ pub struct Style {
 }
 
 /// More than all loads together.
-pub const AMPLE: u16 = 60_000;
+pub const AMPLE: u32 = 60_000;
 /// So many times a switch is tried elsewhere.
 const MOVES: usize = 80;
 
@@ -44,7 +45,7 @@ impl Plot {
         let groups = self.parts.len();
         for e in 0..ELEMENTS {
             let group = if e < (style.branches + 2) * groups { e % groups } else { r.below(groups) };
-            self.draft.add_element(r.from(1, 9) as u16, AMPLE, (e < self.sources) as u16);
+            self.draft.add_element(r.from(1, 9) as u32, AMPLE, (e < self.sources) as u16);
             if e >= groups {
                 let near = self.near(r, group, style);
                 self.draft.add_link((near, e), FIXED, 0);
@@ -89,7 +90,8 @@ impl Plot {
         others.swap_remove(r.below(SWITCHES));
         let Some(pair) = self.pair(r, &others) else { return pairs };
         others.push(pair);
-        let trees = |pairs: &[(usize, usize)]| spanning::trees(self.parts.len() + 1 - self.sources, &self.as_one(pairs));
+        let nodes = self.parts.len() + 1 - self.sources;
+        let trees = |pairs: &[(usize, usize)]| spanning::trees(nodes, &self.as_one(pairs));
         if trees(&others) >= trees(&pairs) { others } else { pairs }
     }
 
@@ -135,7 +137,7 @@ impl Plot {
         }
     }
 
-    pub fn load_of(&self, elements: &[usize]) -> u16 {
+    pub fn load_of(&self, elements: &[usize]) -> u32 {
         elements.iter().map(|&e| self.draft.elements[e].load).sum()
     }
 }

@@ -1,6 +1,6 @@
 //! Feeders with dark regions around them, which must be split where capacities are small, and networks grown at random
 //! without a clash.
-use crate::draft::{Draft, CLOSED, FIXED, OPEN};
+use crate::draft::{Draft, CLOSED, FIXED, NARROW, OPEN};
 use crate::independent::{self, Refusal, ELEMENTS, LINKS, SWITCHES};
 use crate::random::Random;
 
@@ -131,8 +131,8 @@ fn planned(r: &mut Random, shape: &Shape) -> Draft {
 
 /// An element of the feeders: the first ones are sources, each other one hangs on an earlier one.
 fn add_live(r: &mut Random, draft: &mut Draft, shape: &Shape) {
-    let (load, number) = (r.below(shape.load) as u16, draft.elements.len());
-    draft.add_element(load, load + r.below(shape.room) as u16, (number < shape.sources) as u16);
+    let (load, number) = (r.below(shape.load) as u32, draft.elements.len());
+    draft.add_element(load, load + r.below(shape.room) as u32, (number < shape.sources) as u16);
     if number >= shape.sources {
         let form = if chance(r, 5) { FIXED } else { CLOSED };
         draft.add_link((r.below(number), number), form, r.from(1, shape.cost) as u16);
@@ -141,9 +141,9 @@ fn add_live(r: &mut Random, draft: &mut Draft, shape: &Shape) {
 
 /// A dark element, which mostly hangs on an earlier one; `left` counts the switches at dark elements that are left.
 fn add_dark(r: &mut Random, draft: &mut Draft, shape: &Shape, left: &mut usize) {
-    let (load, number) = (r.below(shape.load) as u16, draft.elements.len());
+    let (load, number) = (r.below(shape.load) as u32, draft.elements.len());
     let flags = if chance(r, shape.faults) { r.from(2, 3) as u16 } else { 0 };
-    draft.add_element(load, load + r.below(shape.room) as u16, flags);
+    draft.add_element(load, load + r.below(shape.room) as u32, flags);
     if number == shape.live || chance(r, shape.alone) {
         return;
     }
@@ -170,7 +170,7 @@ fn add_ties(r: &mut Random, draft: &mut Draft, ties: usize, dearest: usize) {
 fn relieve(r: &mut Random, draft: &mut Draft) {
     for _ in 0..200 {
         let Err(Refusal { rule: 17, place }) = independent::accept(&draft.file()) else { return };
-        draft.elements[place as usize].capacity += r.from(1, 6) as u16;
+        draft.elements[place as usize].capacity += r.from(1, 6) as u32;
     }
 }
 
@@ -212,7 +212,7 @@ impl Growing {
         };
         self.part_of.push(self.draft.elements.len());
         self.holds.push(Holds::of(flags));
-        self.draft.add_element(r.below(5) as u16, r.from(2, 15) as u16, flags);
+        self.draft.add_element(r.below(5) as u32, r.from(2, 15) as u32, flags);
     }
 
     /// A link from the last element to an earlier one, open where it would clash.
@@ -248,8 +248,8 @@ fn grown(r: &mut Random) -> Draft {
 
 fn enlarge(draft: &mut Draft) {
     for element in &mut draft.elements {
-        element.load = element.load.saturating_mul(4001);
-        element.capacity = element.capacity.saturating_mul(4001);
+        element.load = (4001 * element.load).min(NARROW);
+        element.capacity = (4001 * element.capacity).min(NARROW);
     }
     draft.links.iter_mut().for_each(|link| link.cost = link.cost.saturating_mul(13107));
 }

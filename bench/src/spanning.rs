@@ -1,6 +1,7 @@
 //! How many spanning trees a graph has.
 
-/// By Kirchhoff's theorem: the determinant of the matrix of degrees and links without the row and column of node 0. Exact for numbers this small.
+/// By Kirchhoff's theorem: the determinant of the matrix of degrees and links without the row and column of node 0.
+/// Exact for numbers this small.
 pub fn trees(nodes: usize, pairs: &[(usize, usize)]) -> u64 {
     let mut matrix = vec![vec![0.0; nodes]; nodes];
     for &(a, b) in pairs {

@@ -1,4 +1,5 @@
-//! The stack that the library's functions use, on a chain of 64 elements and on the largest network with the longest plan.
+//! The stack that the library's functions use, on a chain of 64 elements and on the largest network with the longest
+//! plan.
 use crate::library;
 use bench::draft::{plan_file, Draft, FIXED, OPEN};
 use bench::independent::{ELEMENTS, SWITCHES};
@@ -18,7 +19,10 @@ type Pair = [Vec<u8>; 2];
 type Measure = fn(&mut dyn FnMut()) -> usize;
 
 pub fn run(folder: &Path) -> Result<(), String> {
-    let read = |name: &str| std::fs::read(folder.join(name)).map_err(|error| format!("{}: {error}", folder.join(name).display()));
+    let read = |name: &str| {
+        let path = folder.join(name);
+        std::fs::read(&path).map_err(|error| format!("{}: {error}", path.display()))
+    };
     let pairs = [chain(), [read("largest.net")?, read("largest.plan")?]];
     let most = on_thread(2 * FILLED.end, pairs.clone(), written)?;
     println!("stack: {most} bytes at most");
@@ -36,7 +40,7 @@ pub fn run(folder: &Path) -> Result<(), String> {
 /// One source, fixed links, and at the end open switches, which the plan closes.
 fn chain() -> Pair {
     let mut draft = Draft::default();
-    (0..ELEMENTS).for_each(|e| draft.add_element(1, ELEMENTS as u16, (e == 0) as u16));
+    (0..ELEMENTS).for_each(|e| draft.add_element(1, ELEMENTS as u32, (e == 0) as u16));
     let switches = ELEMENTS - 1 - SWITCHES..ELEMENTS - 1;
     (0..ELEMENTS - 1).for_each(|l| draft.add_link((l, l + 1), if switches.contains(&l) { OPEN } else { FIXED }, 1));
     let steps: Vec<(usize, u16)> = switches.map(|link| (link, 1)).collect();
@@ -71,5 +75,6 @@ fn written(call: &mut dyn FnMut()) -> usize {
     // Safety: the thread's stack has twice as many bytes, and nothing lives this far below the frame.
     FILLED.for_each(|below| unsafe { ((top - below) as *mut u8).write_volatile(PATTERN) });
     call();
-    FILLED.rev().find(|&below| unsafe { ((top - below) as *const u8).read_volatile() } != PATTERN).unwrap_or(FILLED.start)
+    let is_written = |&below: &usize| unsafe { ((top - below) as *const u8).read_volatile() } != PATTERN;
+    FILLED.rev().find(is_written).unwrap_or(FILLED.start)
 }

@@ -69,7 +69,8 @@ fn time(program: Program, inputs: &[Vec<u8>], out: &mut Vec<u8>) -> f64 {
     start.elapsed().as_nanos() as f64
 }
 
-/// The least times that the two programs take for some inputs, in turns: what else the machine does only ever adds time.
+/// The least times that the two programs take for some inputs, in turns: what else the machine does only ever adds
+/// time.
 fn least(programs: Pair, inputs: &[Vec<u8>], turns: usize, outs: &mut [Vec<u8>; 2]) -> [f64; 2] {
     let mut least = [f64::MAX; 2];
     for _ in 0..turns {
@@ -102,10 +103,12 @@ fn quickest(programs: Pair, input: &Vec<u8>) -> [f64; 2] {
 /// Measures a group and prints its line.
 fn measure(name: &str, unit: &str, programs: Pair, inputs: &[Vec<u8>]) -> Times {
     let times = rounds(programs, inputs);
-    let worst = inputs.iter().map(|input| quickest(programs, input)).map(|[proved, other]| proved / other).fold(0.0, f64::max);
+    let ratios = inputs.iter().map(|input| quickest(programs, input)).map(|[proved, other]| proved / other);
+    let worst = ratios.fold(0.0, f64::max);
     let Times([proved, other]) = times;
     println!(
-        "{name}, {} inputs: proved {proved:.0} ns a {unit}, {:.0} {unit}s a second; Rust {other:.0} ns, {:.0} a second; ratio {:.2}, worst input {worst:.2}",
+        "{name}, {} inputs: proved {proved:.0} ns a {unit}, {:.0} {unit}s a second; \
+         Rust {other:.0} ns, {:.0} a second; ratio {:.2}, worst input {worst:.2}",
         inputs.len(),
         1e9 / proved,
         1e9 / other,
@@ -133,7 +136,8 @@ fn largest(r: &mut Random, planned: bool, draw: impl Fn(&mut Random) -> Draft) -
         let file = draft.file();
         let Ok(accepted) = independent::accept(&file) else { continue };
         let has_plan = matches!(independent::plan(&file), Reply::Plan(..));
-        if draft.links.len() == LINKS && accepted.start.operable.count_ones() as usize == SWITCHES && has_plan == planned {
+        let operable = accepted.start.operable.count_ones() as usize;
+        if draft.links.len() == LINKS && operable == SWITCHES && has_plan == planned {
             return file;
         }
     }
@@ -210,7 +214,8 @@ fn sum(groups: [Times; 4]) -> Times {
 fn measure_judge(r: &mut Random) -> Times {
     let full = measure("judge, large, valid, 254 or 255 steps", "mark", JUDGES, &judged(r, longest));
     let good = measure("judge, large, 20 to 200 good steps", "mark", JUDGES, &judged(r, any_good));
-    let printed = measure("judge, large, the printed plan", "mark", JUDGES, &judged(r, |_, network| plans::printed(network)));
+    let as_printed = judged(r, |_, network| plans::printed(network));
+    let printed = measure("judge, large, the printed plan", "mark", JUDGES, &as_printed);
     let empty = measure("judge, large, no step", "mark", JUDGES, &judged(r, |_, _| vec![]));
     full.and(good).and(printed).and(empty)
 }
@@ -221,5 +226,6 @@ pub fn run(seed: u64) {
     let random = measure("random networks", "plan", PLANNERS, &random_networks(&mut r));
     let (hard, planned) = (measure_hard(&mut r), measure_planned(&mut r));
     let judge = measure_judge(&mut r);
-    println!("ratio random={:.2} hard={:.2} planned={:.2} judge={:.2}", random.ratio(), hard.ratio(), planned.ratio(), judge.ratio());
+    let [random, hard, planned, judge] = [random, hard, planned, judge].map(Times::ratio);
+    println!("ratio random={random:.2} hard={hard:.2} planned={planned:.2} judge={judge:.2}");
 }

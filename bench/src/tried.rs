@@ -1,6 +1,8 @@
-//! The tried networks of document 01, with what the document says of them.
+//! The tried networks of document 01 and such with wide elements, with what the documents say of them.
 use crate::draft::{plan_file, Draft, CLOSED, FIXED, OPEN};
 use crate::enumeration::{mark_text, plan_text};
+use crate::random::Random;
+use crate::widening::widened;
 
 fn network_b() -> Draft {
     let mut draft = Draft::default();
@@ -43,7 +45,7 @@ fn changed(mut draft: Draft, change: impl Fn(&mut Draft)) -> Draft {
 
 /// What the planner's lines begin with.
 fn replies() -> Vec<(Draft, &'static str)> {
-    let small = |capacity: u16| changed(network_b(), |b| b.elements[0].capacity = capacity);
+    let small = |capacity: u32| changed(network_b(), |b| b.elements[0].capacity = capacity);
     let mut alone = Draft::default();
     alone.add_element(0, 0, 1);
     vec![
@@ -62,25 +64,90 @@ fn replies() -> Vec<(Draft, &'static str)> {
     ]
 }
 
+/// Network B with loads and capacities that only wide elements hold.
+fn wide_b() -> Draft {
+    changed(network_b(), |b| {
+        b.elements[0].capacity = 500_000;
+        (b.elements[1].load, b.elements[1].capacity) = (200_000, 900_000);
+        (b.elements[3].load, b.elements[3].capacity) = (300_000, 900_000);
+    })
+}
+
+/// A source of the largest capacity that feeds a bus of that load, and one of another load behind it.
+fn brimful(load: u32) -> Draft {
+    let mut draft = Draft::default();
+    for (load, flags) in [(0, 1), (u32::MAX, 0), (load, 0)] {
+        draft.add_element(load, u32::MAX, flags);
+    }
+    draft.add_link((0, 1), CLOSED, 1);
+    draft.add_link((1, 2), CLOSED, 1);
+    draft
+}
+
+/// What the planner's lines begin with for wide elements.
+fn wide_replies() -> Vec<(Draft, &'static str)> {
+    let all_wide = changed(network_b(), |b| b.elements.iter_mut().for_each(|element| element.wide = true));
+    vec![
+        (all_wide, "PLAN 1 2\nCLOSE 4\nLOAD 5 0 1\n"),
+        (wide_b(), "PLAN 1 2\nCLOSE 4\nLOAD 500000 0 1\n"),
+        (changed(wide_b(), |b| b.elements[0].capacity = 499_999), "NONE\nLOAD 200000 300000 1\n"),
+        (changed(wide_b(), |b| b.elements[0].capacity = 199_999), "REFUSED 17 0\n"),
+        (brimful(0), "PLAN 0 0\nLOAD 4294967295 0 0\n"),
+        (brimful(1), "REFUSED 17 0\n"),
+        (changed(brimful(1), |b| b.links[1].form = OPEN), "NONE\nLOAD 4294967295 1 0\n"),
+        (changed(brimful(u32::MAX), |b| b.elements[1].flags = 2), "REFUSED 16 1\n"),
+    ]
+}
+
+/// The planner's lines for network B with its first element wide and some bytes changed: element 0 stands at 8,
+/// element 1 at 22, link 0 at 62.
+fn edited() -> Vec<(Vec<u8>, &'static str)> {
+    let file = changed(network_b(), |b| b.elements[0].wide = true).file();
+    let with = |at: usize, byte: u8| {
+        let mut bytes = file.clone();
+        bytes[at] = byte;
+        bytes
+    };
+    let at_link = [&file[..62], &file[8..22], &file[62..]].concat();
+    vec![
+        (with(8, 10), "REFUSED 3 8\n"),
+        (with(22, 14), "REFUSED 3 22\n"),
+        (with(24, 7), "REFUSED 3 22\n"),
+        (at_link, "REFUSED 2 62\n"),
+        (file[..18].to_vec(), "REFUSED 4 8\n"),
+        (with(20, 4), "REFUSED 6 8\n"),
+        (with(21, 1), "REFUSED 6 8\n"),
+        (with(17, 1), "PLAN 1 2\nCLOSE 4\nLOAD 5 0 1\n"),
+    ]
+}
+
 fn marks() -> Vec<(Draft, Vec<(usize, u16)>, &'static str)> {
     vec![
         (network_d(), vec![(0, 1)], "BROKEN 1 3\n"),
         (network_b(), vec![(3, 1)], "VALID 4 2\n"),
         (network_b(), vec![], "SHORT 3\n"),
+        (wide_b(), vec![(4, 1)], "VALID 2 0\n"),
+        (wide_b(), vec![(3, 1)], "BROKEN 1 3\n"),
+        (wide_b(), vec![], "SHORT 3\n"),
     ]
 }
 
-/// Holds the enumeration to the document.
+/// Holds the enumeration to the documents, with the elements as they are and rewritten as wide ones.
 pub fn check() -> Result<(), String> {
+    let r = &mut Random::new(1);
     let mut tried = vec![(plan_text(&[]), "REFUSED 1 0\n")];
-    for (network, said) in replies() {
+    for (network, said) in replies().into_iter().chain(wide_replies()) {
         tried.push((plan_text(&network.file()), said));
+        tried.push((plan_text(&widened(r, &network.file())), said));
     }
+    tried.extend(edited().into_iter().map(|(bytes, said)| (plan_text(&bytes), said)));
     for (network, steps, said) in marks() {
-        tried.push((mark_text(&[network.file(), plan_file(&steps)].concat()), said));
+        let input = [network.file(), plan_file(&steps)].concat();
+        tried.push((mark_text(&input), said));
+        tried.push((mark_text(&widened(r, &input)), said));
     }
     match tried.iter().find(|(printed, said)| !printed.starts_with(said)) {
-        Some((printed, said)) => Err(format!("document 01 says\n{said}and the enumeration\n{printed}")),
+        Some((printed, said)) => Err(format!("the documents say\n{said}and the enumeration\n{printed}")),
         None => Ok(()),
     }
 }

@@ -4,11 +4,15 @@ use super::records::{Kind, Record, Records};
 use super::refusal::Refusal;
 
 const NETWORK_HEAD: Kind = Kind { number: 1, length: 8 };
-const ELEMENT: Kind = Kind { number: 2, length: 10 };
+const NARROW_ELEMENT: Kind = Kind { number: 2, length: 10 };
 const LINK: Kind = Kind { number: 3, length: 12 };
 const END: Kind = Kind { number: 4, length: 4 };
 const PLAN_HEAD: Kind = Kind { number: 5, length: 6 };
 const STEP: Kind = Kind { number: 6, length: 8 };
+const WIDE_ELEMENT: Kind = Kind { number: 7, length: 14 };
+
+/// The kinds that may come where an element is due.
+const ELEMENTS: [Kind; 2] = [NARROW_ELEMENT, WIDE_ELEMENT];
 
 const MOST_ELEMENTS: u64 = 64;
 const MOST_LINKS: u64 = 96;
@@ -42,7 +46,7 @@ fn network_file(records: &mut Records) -> Result<Network, Refusal> {
     let head = records.next(&[NETWORK_HEAD])?;
     let (elements, links) = (head.field(0), head.field(1));
     head.refuse_if(elements < 1 || MOST_ELEMENTS < elements || MOST_LINKS < links, 5)?;
-    let read_elements: Result<_, _> = (0..elements).map(|_| element(records.next(&[ELEMENT])?)).collect();
+    let read_elements: Result<_, _> = (0..elements).map(|_| element(records.next(&ELEMENTS)?)).collect();
     let read_elements = read_elements?;
     let read_links: Result<_, _> = (0..links).map(|_| link(records.next(&[LINK])?, elements)).collect();
     let read_links = read_links?;
@@ -51,7 +55,9 @@ fn network_file(records: &mut Records) -> Result<Network, Refusal> {
 }
 
 fn element(record: Record) -> Result<Element, Refusal> {
-    let (load, capacity, flags) = (record.field(0), record.field(1), record.field(2));
+    let width = if record.kind == WIDE_ELEMENT { 4 } else { 2 };
+    let (load, capacity) = (record.number(4, width), record.number(4 + width, width));
+    let flags = record.number(4 + 2 * width, 2);
     record.refuse_if(3 < flags, 6)?;
     Ok(Element { load, capacity, source: flags == 1 || flags == 3, faulty: flags == 2 || flags == 3 })
 }

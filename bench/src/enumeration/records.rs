@@ -2,21 +2,27 @@
 use super::refusal::Refusal;
 
 /// A kind of record, by its number and its length in bytes.
-#[derive(Clone, Copy)]
+#[derive(Clone, Copy, PartialEq)]
 pub struct Kind {
     pub number: u64,
     pub length: usize,
 }
 
 pub struct Record<'a> {
-    pub place: usize,
+    pub kind: Kind,
+    place: usize,
     bytes: &'a [u8],
 }
 
 impl Record<'_> {
     /// The two-byte field with that many such fields before it; the length and the kind come before all of them.
     pub fn field(&self, before: usize) -> u64 {
-        number(self.bytes, 4 + 2 * before)
+        self.number(4 + 2 * before, 2)
+    }
+
+    /// The number of so many bytes at an offset from the record's front.
+    pub fn number(&self, at: usize, width: usize) -> u64 {
+        number(self.bytes, at, width)
     }
 
     /// Refuses this record by a rule that it breaks.
@@ -45,14 +51,14 @@ impl<'a> Records<'a> {
         if rest.len() < 4 {
             return Err(refused(1));
         }
-        let kind = may_come.iter().find(|kind| kind.number == number(rest, 2)).ok_or(refused(2))?;
-        if number(rest, 0) != kind.length as u64 {
+        let kind = may_come.iter().find(|kind| kind.number == number(rest, 2, 2)).ok_or(refused(2))?;
+        if number(rest, 0, 2) != kind.length as u64 {
             return Err(refused(3));
         }
         if rest.len() < kind.length {
             return Err(refused(4));
         }
-        let record = Record { place: self.at, bytes: &rest[..kind.length] };
+        let record = Record { kind: *kind, place: self.at, bytes: &rest[..kind.length] };
         self.at += kind.length;
         Ok(record)
     }
@@ -66,7 +72,7 @@ impl<'a> Records<'a> {
     }
 }
 
-/// Two bytes, low byte first.
-fn number(bytes: &[u8], at: usize) -> u64 {
-    bytes[at] as u64 + 256 * bytes[at + 1] as u64
+/// So many bytes, low byte first.
+fn number(bytes: &[u8], at: usize, width: usize) -> u64 {
+    bytes[at..at + width].iter().rev().fold(0, |higher, &byte| 256 * higher + byte as u64)
 }

@@ -31,12 +31,12 @@ impl Accepted {
 }
 
 fn overloaded(network: &Network, live: &Walk) -> u64 {
-    let mut behind = [0u32; ELEMENTS];
+    let mut behind = [0u64; ELEMENTS];
     let mut over = 0;
     for element in live.inwards() {
         let ratings = network.ratings[element];
-        let load = behind[element] + ratings.load as u32;
-        over |= ((load > ratings.capacity as u32) as u64) << element;
+        let load = behind[element] + ratings.load as u64;
+        over |= ((load > ratings.capacity as u64) as u64) << element;
         behind[live.from[element] as usize] += load;
     }
     over

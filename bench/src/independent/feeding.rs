@@ -1,7 +1,8 @@
 //! Nodes fed from live ones over closed switches, and what every element on the way can bear besides.
 //!
-//! A node is viewed from the element where it is fed. Elements of a view with the same switches behind them bear the same loads besides their
-//! own, so one joint stands for them all, and has the least of what they can bear. Loads go from joint to joint up to a source.
+//! A node is viewed from the element where it is fed. Elements of a view with the same switches behind them bear the
+//! same loads besides their own, so one joint stands for them all, and has the least of what they can bear. Loads go
+//! from joint to joint up to a source.
 use super::accepted::{Accepted, SWITCHES};
 use super::bits;
 use super::nodes::{Nodes, Switch, NODES};
@@ -24,7 +25,7 @@ struct View {
 
 pub struct Joint {
     /// what it can bear besides
-    pub left: i32,
+    pub left: i64,
     /// the next joint towards the source
     pub up: u16,
 }
@@ -57,7 +58,8 @@ impl<'a> Feeding<'a> {
         let nodes = Nodes::of(accepted, links);
         let lumped = Lumped::of(accepted, &nodes);
         let (joints, views) = (Vec::with_capacity(USUAL), Vec::with_capacity(USUAL));
-        let mut feeding = Feeding { accepted, nodes, lumped, joints, gates: 0, views, seen: [[UNSEEN; 2]; SWITCHES], view: [0; NODES] };
+        let (seen, view) = ([[UNSEEN; 2]; SWITCHES], [0; NODES]);
+        let mut feeding = Feeding { accepted, nodes, lumped, joints, gates: 0, views, seen, view };
         for node in bits(feeding.nodes.live as u128) {
             let source = feeding.nodes.parts[node] & accepted.network.sound;
             feeding.view[node] = feeding.look_from(node, source.trailing_zeros() as usize, u16::MAX);
@@ -108,7 +110,7 @@ impl<'a> Feeding<'a> {
     }
 
     /// Puts a load on all joints up to the source, or on none if one can't bear it.
-    fn bear(&mut self, first: u16, load: i32) -> bool {
+    fn bear(&mut self, first: u16, load: i64) -> bool {
         let mut at = first;
         while at != NO_JOINT {
             let joint = &mut self.joints[at as usize];
@@ -123,7 +125,7 @@ impl<'a> Feeding<'a> {
     }
 
     /// Takes a load from the joints up to one that is excluded.
-    fn relieve(&mut self, first: u16, end: u16, load: i32) {
+    fn relieve(&mut self, first: u16, end: u16, load: i64) {
         let mut at = first;
         while at != end {
             let joint = &mut self.joints[at as usize];
@@ -144,7 +146,7 @@ impl<'a> Feeding<'a> {
     }
 
     /// The load at an element and its joint, if it has one; `None` once a load exceeds its capacity.
-    fn look(&mut self, view: usize, element: usize, from: u64, switches: u16) -> Option<(i32, u16)> {
+    fn look(&mut self, view: usize, element: usize, from: u64, switches: u16) -> Option<(i64, u16)> {
         let mut load = self.lumped.load[element];
         let (mut below, mut count) = ([NO_JOINT; SWITCHES], 0);
         let mut next = self.accepted.network.neighbours.of(element) & self.lumped.kept & !from;
@@ -158,7 +160,7 @@ impl<'a> Feeding<'a> {
             next &= next - 1;
         }
         let joint = self.over(view, self.nodes.ports[element] & switches, &below[..count]);
-        let left = self.accepted.network.ratings[element].capacity as i32 - load;
+        let left = self.accepted.network.ratings[element].capacity as i64 - load;
         if joint != NO_JOINT {
             let joint = &mut self.joints[joint as usize];
             joint.left = joint.left.min(left);
@@ -166,13 +168,14 @@ impl<'a> Feeding<'a> {
         (left >= 0).then_some((load, joint))
     }
 
-    /// The joint of an element where these switches stand, over these joints: a new one where it is no single other one's.
+    /// The joint of an element where these switches stand, over these joints: a new one where it is no single other
+    /// one's.
     fn over(&mut self, view: usize, switches: u16, below: &[u16]) -> u16 {
         if switches == 0 && below.len() <= 1 {
             return below.first().copied().unwrap_or(NO_JOINT);
         }
         let joint = self.joints.len() as u16;
-        self.joints.push(Joint { left: i32::MAX, up: NO_JOINT });
+        self.joints.push(Joint { left: i64::MAX, up: NO_JOINT });
         bits(switches as u128).for_each(|switch| self.views[view].at[switch] = joint);
         below.iter().for_each(|&other| self.joints[other as usize].up = joint);
         joint

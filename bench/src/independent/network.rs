@@ -1,14 +1,14 @@
 //! A network as its file states it, with rules 5 to 9.
 use super::neighbours::Neighbours;
-use super::reader::{Reader, Record, Refusal, ELEMENT, HEAD, LINK};
+use super::reader::{number, Reader, Record, Refusal, ELEMENT, HEAD, LINK, WIDE_ELEMENT};
 
 pub const ELEMENTS: usize = 64;
 pub const LINKS: usize = 96;
 
 #[derive(Clone, Copy, Default)]
 pub struct Ratings {
-    pub load: u16,
-    pub capacity: u16,
+    pub load: u32,
+    pub capacity: u32,
 }
 
 pub struct Network {
@@ -32,11 +32,15 @@ impl Network {
     /// The records of a network file up to its end record.
     pub fn read(reader: &mut Reader) -> Result<Box<Network>, Refusal> {
         let head = reader.record(HEAD)?;
-        let [elements, links] = head.fields.map(usize::from);
+        let [elements, links] = head.words.map(usize::from);
         head.demand(5, (1..=ELEMENTS).contains(&elements) && links <= LINKS)?;
         let mut network = Box::new(Network::empty(elements, links));
         for element in 0..elements {
-            network.put_element(element, reader.record(ELEMENT)?)?;
+            if reader.is_next(WIDE_ELEMENT) {
+                network.put_element::<5>(element, reader.record(WIDE_ELEMENT)?)?;
+            } else {
+                network.put_element::<3>(element, reader.record(ELEMENT)?)?;
+            }
         }
         let mut bit = 1;
         for link in 0..links {
@@ -62,17 +66,19 @@ impl Network {
         }
     }
 
-    fn put_element(&mut self, element: usize, record: Record<3>) -> Result<(), Refusal> {
-        let [load, capacity, flags] = record.fields;
+    /// Load and capacity share what is left of a record's words beside its flags.
+    fn put_element<const WORDS: usize>(&mut self, element: usize, record: Record<WORDS>) -> Result<(), Refusal> {
+        let (ratings, flags) = (&record.words[..WORDS - 1], record.words[WORDS - 1]);
         record.demand(6, flags <= 3)?;
-        self.ratings[element] = Ratings { load, capacity };
+        let (load, capacity) = ratings.split_at(WORDS / 2);
+        self.ratings[element] = Ratings { load: number(load), capacity: number(capacity) };
         self.sound |= ((flags == 1) as u64) << element;
         self.faulty |= ((flags >= 2) as u64) << element;
         Ok(())
     }
 
     fn put_link(&mut self, link: usize, bit: u128, record: Record<4>) -> Result<(), Refusal> {
-        let [a, b, form, cost] = record.fields;
+        let [a, b, form, cost] = record.words;
         record.demand(7, a.max(b) < self.elements as u16 && a != b)?;
         record.demand(8, form <= 2)?;
         record.demand(9, (form == 0) == (cost == 0))?;

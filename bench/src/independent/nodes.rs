@@ -1,7 +1,9 @@
-//! The parts that are left when every operable switch is open, as far as such a switch stands at them: the nodes that plans join.
+//! The parts that are left when every operable switch is open, as far as such a switch stands at them: the nodes that
+//! plans join.
 //!
-//! A node is live, faulty or waiting. All elements of a waiting node are dark and restorable and joined by fixed links, since every switch at
-//! such an element is operable. An operable switch has a waiting node at one end at least.
+//! A node is live, faulty or waiting. All elements of a waiting node are dark and restorable and joined by fixed
+//! links, since every switch at such an element is operable. An operable switch has a waiting node at one end at
+//! least.
 use super::accepted::{Accepted, SWITCHES};
 use super::network::ELEMENTS;
 use super::walk::Walk;
@@ -27,7 +29,8 @@ pub struct Nodes {
     pub faulty: u32,
     pub waiting: u32,
     pub switches: [Switch; SWITCHES],
-    /// the switches with a live or waiting node at both ends, and not the same one: no other one is closed when all is restored
+    /// the switches with a live or waiting node at both ends, and not the same one: no other one is closed when all
+    /// is restored
     pub usable: u16,
     /// of each element the usable switches that stand at it
     pub ports: [u16; ELEMENTS],

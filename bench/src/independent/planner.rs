@@ -35,7 +35,8 @@ pub fn plan(input: &[u8]) -> Reply {
     }
 }
 
-/// A plan leaves every restorable element live, and no other one can be: a part with a sound source and a spoiled element has a fault too.
+/// A plan leaves every restorable element live, and no other one can be: a part with a sound source and a spoiled
+/// element has a fault too.
 fn plan_accepted(accepted: &Accepted) -> Reply {
     let start = &accepted.start;
     match cheapest(accepted) {

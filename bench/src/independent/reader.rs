@@ -6,6 +6,7 @@ pub const LINK: u16 = 3;
 pub const END: u16 = 4;
 pub const PLAN_HEAD: u16 = 5;
 pub const STEP: u16 = 6;
+pub const WIDE_ELEMENT: u16 = 7;
 
 #[derive(Clone, Copy, Debug, PartialEq)]
 pub struct Refusal {
@@ -18,14 +19,20 @@ pub struct Reader<'a> {
     at: usize,
 }
 
-/// A record's fields behind its length and its kind, and the offset of its first byte.
-pub struct Record<const FIELDS: usize> {
-    pub fields: [u16; FIELDS],
+/// A record's words behind its length and its kind, and the offset of its first byte. A field of four bytes is two
+/// words.
+pub struct Record<const WORDS: usize> {
+    pub words: [u16; WORDS],
     place: usize,
 }
 
 pub fn word(bytes: &[u8], at: usize) -> u16 {
     u16::from_le_bytes([bytes[at], bytes[at + 1]])
+}
+
+/// The number that some words make, the lowest first.
+pub fn number(words: &[u16]) -> u32 {
+    words.iter().rev().fold(0, |high, &word| high << 16 | word as u32)
 }
 
 /// A record's length and kind.
@@ -38,17 +45,23 @@ impl<'a> Reader<'a> {
         Reader { rest: bytes, at: 0 }
     }
 
-    /// The next record, which must be of that kind. A kind's length follows from its count of fields.
+    /// The next record, which must be of that kind. A kind's length follows from its count of words.
     #[inline(always)]
-    pub fn record<const FIELDS: usize>(&mut self, kind: u16) -> Result<Record<FIELDS>, Refusal> {
-        let (place, length) = (self.at, 4 + 2 * FIELDS);
+    pub fn record<const WORDS: usize>(&mut self, kind: u16) -> Result<Record<WORDS>, Refusal> {
+        let (place, length) = (self.at, 4 + 2 * WORDS);
         match self.rest.split_at_checked(length) {
             Some((record, rest)) if record[..4] == front(kind, length) => {
                 (self.rest, self.at) = (rest, place + length);
-                Ok(Record { fields: std::array::from_fn(|i| word(record, 4 + 2 * i)), place })
+                Ok(Record { words: std::array::from_fn(|i| word(record, 4 + 2 * i)), place })
             }
             _ => self.refuse(self.broken(kind, length)),
         }
+    }
+
+    /// Whether the next bytes name that kind.
+    #[inline(always)]
+    pub fn is_next(&self, kind: u16) -> bool {
+        self.rest.len() >= 4 && word(self.rest, 2) == kind
     }
 
     /// The first of rules 1 to 4 that the next bytes break, where they are no record of that kind.
@@ -88,7 +101,7 @@ impl<'a> Reader<'a> {
     }
 }
 
-impl<const FIELDS: usize> Record<FIELDS> {
+impl<const WORDS: usize> Record<WORDS> {
     pub fn demand(&self, rule: u64, kept: bool) -> Result<(), Refusal> {
         if kept {
             return Ok(());

@@ -1,17 +1,20 @@
-//! The cheapest set of switches whose operation ends in a safe configuration that feeds every restorable element, the first of several.
+//! The cheapest set of switches whose operation ends in a safe configuration that feeds every restorable element, the
+//! first of several.
 //!
-//! Only the last configuration needs a look. Openings come first and are in the dark; and a safe configuration stays safe with closed links
-//! left out, so each one on the way, which has fewer links closed than the last, is safe too.
+//! Only the last configuration needs a look. Openings come first and are in the dark; and a safe configuration stays
+//! safe with closed links left out, so each one on the way, which has fewer links closed than the last, is safe too.
 //!
-//! With all live nodes taken as one, the switches closed in the last configuration make a spanning tree of the nodes. The search grows it from
-//! the live nodes, always over the lightest switch that leads on: if nothing is overloaded on the way, that makes the lightest tree there is.
+//! With all live nodes taken as one, the switches closed in the last configuration make a spanning tree of the nodes.
+//! The search grows it from the live nodes, always over the lightest switch that leads on: if nothing is overloaded
+//! on the way, that makes the lightest tree there is.
 use super::accepted::SWITCHES;
 use super::bits;
 use super::feeding::{Feed, Feeding};
 use super::supply::Supply;
 use super::weights::Weights;
 
-/// The least weight of such a set. The feeding has its switches in the order of their weights, and feeds live nodes alone.
+/// The least weight of such a set. The feeding has its switches in the order of their weights, and feeds live nodes
+/// alone.
 pub fn lightest(feeding: &mut Feeding, weights: &Weights) -> Option<i64> {
     let (stage, supply) = (Stage::first(feeding, weights), Supply::of(feeding));
     if feeding.lumped.too_small != 0 || supply.falls_short(feeding, stage.leading(), stage.load) {
@@ -39,7 +42,7 @@ struct Stage {
     cut: u16,
     /// the nodes outside, and their load
     waiting: u32,
-    load: i32,
+    load: i64,
     /// no tree grown from this one weighs less: each node outside is joined over one of its switches
     least: i64,
 }
@@ -62,7 +65,8 @@ impl Stage {
 }
 
 impl Search<'_, '_> {
-    /// Looks for a lighter tree; hands back whether none is lighter than the best one now even if nothing were overloaded.
+    /// Looks for a lighter tree; hands back whether none is lighter than the best one now even if nothing were
+    /// overloaded.
     fn grow(&mut self, mut stage: Stage) -> bool {
         if stage.least >= self.best {
             return true;

@@ -81,7 +81,8 @@ fn with_an_end_in(set: u64, network: &Network, links: u128) -> u128 {
     bits(links).filter(|&l| inside(network.ends[l].0) || inside(network.ends[l].1)).fold(0, |found, l| found | 1 << l)
 }
 
-/// The dark elements that unspoiled ones join to a live one; no live element is spoiled, as its part would have a fault.
+/// The dark elements that unspoiled ones join to a live one; no live element is spoiled, as its part would have a
+/// fault.
 fn restorable_in(dark: u64, network: &Network, switches: u128) -> u64 {
     let (mut any, mut gates) = (network.neighbours.clone(), 0);
     for link in bits(switches) {

@@ -9,12 +9,12 @@ pub struct Submitted<'a> {
 impl<'a> Submitted<'a> {
     pub fn read(reader: &mut Reader<'a>, network: &Network) -> Result<Submitted<'a>, Refusal> {
         let head = reader.record(PLAN_HEAD)?;
-        let [steps] = head.fields;
+        let [steps] = head.words;
         head.demand(10, steps <= 255)?;
         let behind = reader.rest();
         for _ in 0..steps {
             let step: Record<2> = reader.record(STEP)?;
-            let [link, state] = step.fields;
+            let [link, state] = step.words;
             step.demand(11, (link as usize) < network.links)?;
             step.demand(12, state <= 1)?;
         }

@@ -1,7 +1,8 @@
 //! What the live nodes can still supply to the switches that lead on.
 //!
-//! A gate is a joint of a live node. It takes in no more than it can bear besides, and if no switch that hangs at it leads on, no more than the
-//! gates behind it take in. If the sources take in less than what waits, no tree grown further feeds everything.
+//! A gate is a joint of a live node. It takes in no more than it can bear besides, and if no switch that hangs at it
+//! leads on, no more than the gates behind it take in. If the sources take in less than what waits, no tree grown
+//! further feeds everything.
 use super::bits;
 use super::feeding::{Feed, Feeding, NO_JOINT};
 use super::nodes::NODES;
@@ -15,7 +16,7 @@ pub struct Supply {
     /// of each fed waiting node the gate where it hangs
     gate: [u8; NODES],
     /// the least load of a node
-    least: i32,
+    least: i64,
 }
 
 impl Supply {
@@ -45,7 +46,7 @@ impl Supply {
     }
 
     /// Whether so much load can't be taken in where these switches lead on.
-    pub fn falls_short(&self, feeding: &Feeding, leading: u16, load: i32) -> bool {
+    pub fn falls_short(&self, feeding: &Feeding, leading: u16, load: i64) -> bool {
         let (mut behind, mut total) = ([0; GATES], 0);
         for (gate, joint) in feeding.gates().iter().enumerate() {
             let open = self.switches[gate] & leading != 0 && joint.left >= self.least;

@@ -59,7 +59,8 @@ impl<'a> Trial<'a> {
         }
     }
 
-    /// Opens a switch, which is always safe: it leaves two trees with no more sources, faults and loads than the one before.
+    /// Opens a switch, which is always safe: it leaves two trees with no more sources, faults and loads than the one
+    /// before.
     fn open(&mut self, switch: usize) {
         let [a, b] = self.feeding.nodes.switches[switch].nodes.map(usize::from);
         if (self.live >> a & self.live >> b) & 1 == 1 {

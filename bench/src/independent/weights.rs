@@ -1,7 +1,8 @@
 //! The cost of a set of operated switches and its place among the sets of that cost, in one number.
 //!
-//! A switch operated weighs its cost times 4,096 less a bit of its own, and the lower its link number, the higher that bit. So of two sets the
-//! cheaper one weighs less, and of two equally dear ones the one that comes first; and no two sets weigh the same.
+//! A switch operated weighs its cost times 4,096 less a bit of its own, and the lower its link number, the higher
+//! that bit. So of two sets the cheaper one weighs less, and of two equally dear ones the one that comes first; and
+//! no two sets weigh the same.
 use super::accepted::{Accepted, SWITCHES};
 use super::bits;
 
