@@ -19,12 +19,13 @@ pub record Grid : Type 0 where
   pub endA : ℕ → ℕ
   pub endB : ℕ → ℕ
 
--- and the links' forms at the start, with the switches' costs
+-- and the links' forms at the start, with the switches' costs, and document 02's guard of each link: a number that is no link, K or more, where it has none
 pub record Net : Type 0 where
   pub grid : Grid
   pub fixed : ℕ → Bool
   pub startClosed : ℕ → Bool
   pub cost : ℕ → ℕ
+  pub guard : ℕ → ℕ
 
 -- "two different elements", numbered below E
 pub record Formed (g : Grid) : Type 0 where
@@ -89,4 +90,5 @@ netOf n =
       fixed = λ l. isFixed (at (n .form) l);
       startClosed = λ l. isClosed (at (n .form) l);
       cost = at (n .cost);
+      guard = at (n .guard);
     }

@@ -4,7 +4,7 @@ use mathlib.Core.Path.{_≡_, refl, sym, ap, _∙_}
 use Prim.Native.Nat.{ℕ}
 use lib.ListN.{getD}
 use Rattle.network.specs.declared.refusal.Rule.{Rule}
-use Rattle.network.specs.declared.refusal.Rule.the-variants.{RecordMissing, KindOutOfPlace, WrongLength, RecordCutOff, HeadOutOfRange, UnknownFlags, BadEnds, UnknownForm, UnsuitedCost, TooManySteps, UnknownLink, UnknownState, ByteAfterEnd, NotATree, TwoSources, FaultWithSource, Overloaded, TooManyOperable, BufferTooShort}
+use Rattle.network.specs.declared.refusal.Rule.the-variants.{RecordMissing, KindOutOfPlace, WrongLength, RecordCutOff, HeadOutOfRange, UnknownFlags, BadEnds, UnknownForm, UnsuitedCost, TooManySteps, UnknownLink, UnknownState, ByteAfterEnd, NotATree, TwoSources, FaultWithSource, Overloaded, TooManyOperable, BufferTooShort, BadGuard}
 use Rattle.network.specs.Refusals.{ruleNumber, checkedOrder, countBefore, position}
 
 at-position : (r : Rule) → getD checkedOrder (position r) RecordMissing ≡ r
@@ -28,6 +28,7 @@ at-position FaultWithSource = refl
 at-position Overloaded = refl
 at-position TooManyOperable = refl
 at-position BufferTooShort = refl
+at-position BadGuard = refl
 
 pub position-once : (q r : Rule) → position q ≡ position r → q ≡ r
 position-once q r e = sym (at-position q) ∙ ap (λ (n : ℕ). getD checkedOrder n RecordMissing) e ∙ at-position r

@@ -1,11 +1,12 @@
--- Document 01, "Refusals, in the order they are checked": the number of each rule, the order, and the first broken of a list of rules.
+-- Document 01, "Refusals, in the order they are checked": the number of each rule, the order, and the first broken of a list of rules. Document 02: rule 20
+-- is checked "after 9 in the same record".
 -- Assumes nothing.
 use mathlib.Core.Bool.{Bool, true, false}
 use mathlib.Core.List.{List, [], _∷_}
 use Prim.Native.Nat.{ℕ, suc, _<_}
 use lib.Dec.{eqb}
 use Rattle.network.specs.declared.refusal.Rule.{Rule}
-use Rattle.network.specs.declared.refusal.Rule.the-variants.{RecordMissing, KindOutOfPlace, WrongLength, RecordCutOff, HeadOutOfRange, UnknownFlags, BadEnds, UnknownForm, UnsuitedCost, TooManySteps, UnknownLink, UnknownState, ByteAfterEnd, NotATree, TwoSources, FaultWithSource, Overloaded, TooManyOperable, BufferTooShort}
+use Rattle.network.specs.declared.refusal.Rule.the-variants.{RecordMissing, KindOutOfPlace, WrongLength, RecordCutOff, HeadOutOfRange, UnknownFlags, BadEnds, UnknownForm, UnsuitedCost, TooManySteps, UnknownLink, UnknownState, ByteAfterEnd, NotATree, TwoSources, FaultWithSource, Overloaded, TooManyOperable, BufferTooShort, BadGuard}
 use Rattle.network.specs.declared.refusal.Verdict.{Verdict}
 use Rattle.network.specs.declared.refusal.Verdict.the-variants.{Kept, Broken}
 
@@ -29,12 +30,13 @@ ruleNumber FaultWithSource = 16
 ruleNumber Overloaded = 17
 ruleNumber TooManyOperable = 18
 ruleNumber BufferTooShort = 19
+ruleNumber BadGuard = 20
 
 -- the rules in the order in which they are checked
 abbrev pub checkedOrder : List Rule
 checkedOrder =
     RecordMissing ∷ KindOutOfPlace ∷ WrongLength ∷ RecordCutOff ∷ HeadOutOfRange ∷ UnknownFlags ∷ BadEnds ∷
-    UnknownForm ∷ UnsuitedCost ∷ TooManySteps ∷ UnknownLink ∷ UnknownState ∷ ByteAfterEnd ∷ NotATree ∷ TwoSources ∷
+    UnknownForm ∷ UnsuitedCost ∷ BadGuard ∷ TooManySteps ∷ UnknownLink ∷ UnknownState ∷ ByteAfterEnd ∷ NotATree ∷ TwoSources ∷
     FaultWithSource ∷ Overloaded ∷ TooManyOperable ∷ BufferTooShort ∷ []
 
 abbrev pub pick {ℓ} : {A : Type ℓ} → Bool → A → A → A

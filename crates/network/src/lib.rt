@@ -4,7 +4,7 @@ pub mod refusal;
 ghost use mathlib.Core.Path.{_≡_};
 ghost use Rattle.network.specs.Networks.{emptyNetwork};
 
-// A network as its file states it: element i and link l of the file stand at index i and l, and later entries are 0.
+// A network as its file states it: element i and link l of the file stand at index i and l, and later entries are 0; a link without a guard has 96 there.
 pub struct Network {
     pub load: [u32; 64],
     pub capacity: [u32; 64],
@@ -13,6 +13,7 @@ pub struct Network {
     pub to: [u16; 96],
     pub form: [u16; 96],
     pub cost: [u16; 96],
+    pub guard: [u16; 96],
     pub elements: usize,
     pub links: usize,
 }
@@ -24,12 +25,13 @@ pub struct Element {
     pub flags: u16,
 }
 
-// A link: two elements, form (0 fixed, 1 open switch, 2 closed switch), cost.
+// A link: two elements, form (0 fixed, 1 open switch, 2 closed switch), cost, guard (96 for none).
 pub struct Link {
     pub from: u16,
     pub to: u16,
     pub form: u16,
     pub cost: u16,
+    pub guard: u16,
 }
 
 impl Network {
@@ -38,6 +40,8 @@ impl Network {
     pub const MAX_LINKS: usize = 96;
 
     pub const MAX_OPERABLE: usize = 12;
+
+    pub const NO_GUARD: u16 = 96;
 
     pub fn empty() -> Network
         ensures { λ r. ⌜ r ≡ emptyNetwork ⌝ }
@@ -50,6 +54,7 @@ impl Network {
             to: [0; 96],
             form: [0; 96],
             cost: [0; 96],
+            guard: [Network::NO_GUARD; 96],
             elements: 0,
             links: 0,
         }

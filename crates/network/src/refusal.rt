@@ -1,8 +1,8 @@
-// Document 01's refusals: the rule that is broken, with its place.
+// The refusals of documents 01 and 02: the rule that is broken, with its place.
 ghost use mathlib.Core.Path.{_≡_};
 ghost use Rattle.network.specs.Refusals.{ruleNumber};
 
-// The rules in the order of document 01, 1 to 19.
+// The rules by their numbers: document 01's, 1 to 19, then document 02's.
 pub enum Rule {
     RecordMissing,
     KindOutOfPlace,
@@ -23,6 +23,7 @@ pub enum Rule {
     Overloaded,
     TooManyOperable,
     BufferTooShort,
+    BadGuard,
 }
 
 // What document 01 prints as `REFUSED number place`.
@@ -66,5 +67,6 @@ pub fn number(rule: Rule) -> u8
         Rule::Overloaded => 17,
         Rule::TooManyOperable => 18,
         Rule::BufferTooShort => 19,
+        Rule::BadGuard => 20,
     }
 }
