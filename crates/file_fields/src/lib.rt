@@ -8,12 +8,13 @@ ghost use lib.Dec.{eqb, ltb, leb};
 ghost use lib.ListN.{length};
 ghost use Rattle.network.specs.Refusals.{firstBroken};
 ghost use Rattle.network.specs.Accepted.{suits};
-ghost use Rattle.file_fields.specs.Fields.{word, wideWord, lengthOf, either, headRules, flagsRules, linkRules, planHeadRules, stepRules, fieldRules};
+ghost use Rattle.file_fields.specs.Fields.{word, wideWord, lengthOf, either, headRules, flagsRules, plainLinkRules, linkRules, unknownForm, badGuard, planHeadRules, stepRules, fieldRules};
 
-// What a record's rules may ask of what was read before it: how many elements and links the network has so far.
+// What a record's rules may ask of what was read before it: how many elements and links the network has so far, and the links' forms.
 pub struct Seen {
     pub elements: usize,
     pub links: usize,
+    pub form: [u16; 96],
 }
 
 impl Seen {
@@ -21,6 +22,7 @@ impl Seen {
     pub const NOTHING: Seen = Seen {
         elements: 0,
         links: 0,
+        form: [0; 96],
     };
 }
 
@@ -104,10 +106,36 @@ fn bad_ends(elements: usize, from: usize, to: usize) -> bool
     from == to
 }
 
+// A form above 2; of a guarded switch also form 0.
+fn unknown_form(kind: u16, form: u16) -> bool
+    ensures { λ r. ⌜ r ≡ unknownForm kind form ⌝ }
+{
+    if 2 < form {
+        return true;
+    }
+    if kind == 8 {
+        return form == 0;
+    }
+    false
+}
+
+// A guard that is no earlier link, or a fixed one.
+fn bad_guard(seen: Seen, guard: usize) -> bool
+    ensures { λ r. ⌜ r ≡ badGuard seen guard ⌝ }
+{
+    if seen.links <= guard {
+        return true;
+    }
+    if Network::MAX_LINKS <= guard {
+        return true;
+    }
+    seen.form[guard] == 0
+}
+
 // Rules 7 to 9.
-fn link_rules(s: &[u8], at: usize, elements: usize) -> Verdict
+fn link_rules(s: &[u8], at: usize, kind: u16, elements: usize) -> Verdict
     requires { ⌜ at + 12 ≤ length (now s) ⌝ }
-    ensures { λ r. ⌜ r ≡ firstBroken (linkRules (now (s .entry)) at elements) ⌝ }
+    ensures { λ r. ⌜ r ≡ firstBroken (plainLinkRules (now (s .entry)) at kind elements) ⌝ }
 {
     let from = word_at(s, at + 4) as usize;
     let to = word_at(s, at + 6) as usize;
@@ -115,11 +143,27 @@ fn link_rules(s: &[u8], at: usize, elements: usize) -> Verdict
         return Verdict::Broken(Rule::BadEnds);
     }
     let form = word_at(s, at + 8);
-    if 2 < form {
+    if unknown_form(kind, form) {
         return Verdict::Broken(Rule::UnknownForm);
     }
     if !cost_suits(form, word_at(s, at + 10)) {
         return Verdict::Broken(Rule::UnsuitedCost);
+    }
+    Verdict::Kept
+}
+
+// Rules 7 to 9, then rule 20, of a guarded switch.
+fn guarded_link_rules(s: &[u8], at: usize, seen: Seen) -> Verdict
+    requires { ⌜ at + 14 ≤ length (now s) ⌝ }
+    ensures { λ r. ⌜ r ≡ firstBroken (linkRules (now (s .entry)) at 8 seen) ⌝ }
+{
+    let verdict = link_rules(s, at, 8, seen.elements);
+    let Verdict::Kept = verdict else {
+        return verdict;
+    };
+    let guard = word_at(s, at + 12) as usize;
+    if bad_guard(seen, guard) {
+        return Verdict::Broken(Rule::BadGuard);
     }
     Verdict::Kept
 }
@@ -164,7 +208,7 @@ pub fn field_rules(s: &[u8], at: usize, kind: u16, seen: Seen) -> Verdict
             return flags_rules(s, at + 8);
         }
         3 => {
-            return link_rules(s, at, seen.elements);
+            return link_rules(s, at, 3, seen.elements);
         }
         5 => {
             return plan_head_rules(s, at);
@@ -174,6 +218,9 @@ pub fn field_rules(s: &[u8], at: usize, kind: u16, seen: Seen) -> Verdict
         }
         7 => {
             return flags_rules(s, at + 12);
+        }
+        8 => {
+            return guarded_link_rules(s, at, seen);
         }
         _ => {
             return Verdict::Kept;

@@ -1,4 +1,4 @@
--- Document 01, "Files": the network file, with document 02's kind of element.
+-- Document 01, "Files": the network file, with document 02's kinds of element and link.
 -- Internal: what computes; `Demand1` of `theorems` says of the readers what the paper says.
 -- Assumes nothing.
 use mathlib.Core.Path.{_≡_}
@@ -12,7 +12,7 @@ use Rattle.network.specs.declared.Link.{Link}
 use Rattle.network.specs.declared.Network.{Network}
 use Rattle.file_stages.specs.declared.Stage.{Stage}
 use Rattle.file_stages.specs.declared.Stage.the-variants.{Head}
-use Rattle.network.specs.Networks.{emptyNetwork, elementAdded, linkAdded}
+use Rattle.network.specs.Networks.{noGuard, emptyNetwork, elementAdded, linkAdded}
 use Rattle.network.specs.Refusals.{pick}
 use Rattle.file_fields.specs.Fields.{word, wideWord}
 use Rattle.file_fields.specs.Views.{nothingSeen, networkSeen}
@@ -38,9 +38,19 @@ pub record ElementThere (s : List ℕ) (at kind : ℕ) : Type 0 where
   pub narrow-fits : at + 10 ≤ length s
   pub wide-fits : kind ≡ 7 → at + 14 ≤ length s
 
--- Kind 3: two different elements, form, cost
+-- the guard that a record of either kind states: none for kind 3
+unfoldable pub guardOf : List ℕ → ℕ → ℕ
+guardOf s at = pick (eqb (kindField s at) 8) (word s (at + 12)) noGuard
+
+-- a record of a link stands at an offset, as long as its kind's records
+pub record LinkThere (s : List ℕ) (at kind : ℕ) : Type 0 where
+  pub kind-is : kind ≡ kindField s at
+  pub plain-fits : at + 12 ≤ length s
+  pub guarded-fits : kind ≡ 8 → at + 14 ≤ length s
+
+-- Kind 3: two different elements, form, cost; kind 8: its guard behind them
 unfoldable pub linkOf : List ℕ → ℕ → Link
-linkOf s at = record { from = word s (at + 4); to = word s (at + 6); form = word s (at + 8); cost = word s (at + 10) }
+linkOf s at = record { from = word s (at + 4); to = word s (at + 6); form = word s (at + 8); cost = word s (at + 10); guard = guardOf s at }
 
 unfoldable pub withElement : List ℕ → ℕ → Network → Network
 withElement s at n = elementAdded n (elementOf s at)

@@ -17,7 +17,7 @@ ghost use Rattle.file_fields.specs.Fields.{word};
 ghost use Rattle.file_fields.specs.Views.{nothingSeen, networkSeen};
 ghost use Rattle.network.specs.Networks.{emptyNetwork};
 ghost use Rattle.file_network.specs.Runs.{records, always, refused};
-ghost use Rattle.file_network.specs.NetworkFiles.{narrowElement, wideElement, elementOf, ElementThere, linkOf, withElement, withLink, networkFile, elementsOn, linksOn, endOn};
+ghost use Rattle.file_network.specs.NetworkFiles.{narrowElement, wideElement, elementOf, ElementThere, LinkThere, guardOf, linkOf, withElement, withLink, networkFile, elementsOn, linksOn, endOn};
 ghost use Rattle.file_network.specs.Inputs.{networkPart};
 ghost use Rattle.file_stages.specs.declared.Stage.{Stage};
 ghost use Rattle.file_stages.specs.declared.Stage.the-variants.{Elements, Links};
@@ -85,20 +85,33 @@ fn element_at(s: &[u8], at: usize, kind: u16) -> Element
     narrow_element(s, at)
 }
 
-// The fields of the link record at an offset.
-fn link_at(s: &[u8], at: usize) -> Link
-    requires { ⌜ at + 12 ≤ length (now s) ⌝ }
+// The guard in the link record at an offset, by its kind.
+fn guard_at(s: &[u8], at: usize, kind: u16) -> u16
+    requires { ⌜ LinkThere (now s) at kind ⌝ }
+    ensures { λ r. ⌜ r ≡ guardOf (now (s .entry)) at ⌝ }
+{
+    if kind == 8 {
+        return word_at(s, at + 12);
+    }
+    Network::NO_GUARD
+}
+
+// The fields of the link record at an offset, by its kind.
+fn link_at(s: &[u8], at: usize, kind: u16) -> Link
+    requires { ⌜ LinkThere (now s) at kind ⌝ }
     ensures { λ r. ⌜ r ≡ linkOf (now (s .entry)) at ⌝ }
 {
     let from = word_at(s, at + 4);
     let to = word_at(s, at + 6);
     let form = word_at(s, at + 8);
     let cost = word_at(s, at + 10);
+    let guard = guard_at(s, at, kind);
     Link {
         from,
         to,
         form,
         cost,
+        guard,
     }
 }
 
@@ -150,23 +163,21 @@ fn read_links(s: &[u8], count: usize, start: usize, first: Stage, elements: Netw
         let seen = Seen {
             elements: e,
             links: net.links,
+            form: net.form,
         };
         let found = record_due(s, at, stage, seen);
         match found {
             Found::Refused(refusal) => {
                 return refused_network(refusal);
             }
-            Found::Record {
-                kind: _,
-                length,
-                next,
-            } => {
-                let link = link_at(s, at);
+            Found::Record { kind, length, next } => {
+                let link = link_at(s, at, kind);
                 let i = net.links;
                 net.from[i] = link.from;
                 net.to[i] = link.to;
                 net.form[i] = link.form;
                 net.cost[i] = link.cost;
+                net.guard[i] = link.guard;
                 net.links = i + 1;
                 at += length as usize;
                 stage = next;

@@ -1,12 +1,12 @@
--- Document 01, "Files" and refusals 1 to 12, with document 02's item 1, in their own words: which rules the record that is due at an offset breaks. No test of the reader is cited.
+-- Document 01, "Files" and refusals 1 to 12, with document 02's items 1 and 2, in their own words: which rules the record that is due at an offset breaks. No test of the reader is cited.
 -- Assumes nothing.
 use mathlib.Core.Path.{_≡_}
 use mathlib.Core.List.{List}
 use mathlib.Core.Logic.{_⊎_}
-use Prim.Native.Nat.{ℕ, _+_, _-_, _<_, _≤_}
+use Prim.Native.Nat.{ℕ, zero, suc, _+_, _-_, _<_, _≤_}
 use lib.ListN.{length}
 use Rattle.network.specs.declared.refusal.Rule.{Rule}
-use Rattle.network.specs.declared.refusal.Rule.the-variants.{RecordMissing, KindOutOfPlace, WrongLength, RecordCutOff, HeadOutOfRange, UnknownFlags, BadEnds, UnknownForm, UnsuitedCost, TooManySteps, UnknownLink, UnknownState, ByteAfterEnd, NotATree, TwoSources, FaultWithSource, Overloaded, TooManyOperable, BufferTooShort}
+use Rattle.network.specs.declared.refusal.Rule.the-variants.{RecordMissing, KindOutOfPlace, WrongLength, RecordCutOff, HeadOutOfRange, UnknownFlags, BadEnds, UnknownForm, UnsuitedCost, TooManySteps, UnknownLink, UnknownState, ByteAfterEnd, NotATree, TwoSources, FaultWithSource, Overloaded, TooManyOperable, BufferTooShort, BadGuard}
 use Rattle.network.specs.Refusals.{Sooner}
 use Rattle.file_stages.specs.declared.Stage.{Stage}
 use Rattle.file_stages.specs.declared.Stage.the-variants.{Head, Elements, Links, End, PlanHead, Steps, PlanEnd, Over}
@@ -24,6 +24,8 @@ pub data ComesNext : (stage : Stage) (kind : ℕ) (next : Stage) → Type 0 wher
   -- document 02: "Kind 7 .. may stand wherever kind 2 may"
   behind-wide-element : ComesNext Elements 7 Elements
   behind-link : ComesNext Links 3 Links
+  -- document 02: "Kind 8 is a switch laid out as kind 3, in the same places"
+  behind-guarded-link : ComesNext Links 8 Links
   behind-end : ComesNext End 4 PlanHead
   behind-plan-head : ComesNext PlanHead 5 Steps
   behind-step : ComesNext Steps 6 Steps
@@ -42,11 +44,29 @@ pub data KindLength : ℕ → ℕ → Type 0 where
   step : KindLength 6 8
   -- document 02: "Kind 7 is an element .., length 14"
   wide-element : KindLength 7 14
+  -- document 02: "Kind 8 .. with one more field, the number of its guard ..; length 14"
+  guarded-link : KindLength 8 14
 
 -- "Kind 2, element, length 10: own load, capacity, flags"; document 02: "Kind 7 is an element with load and capacity of four bytes each, then flags"
 pub data StatesElement (s : List ℕ) (at : ℕ) : (load capacity flags : ℕ) → Type 0 where
   narrow : kindField s at ≡ 2 → StatesElement s at (word s (at + 4)) (word s (at + 6)) (word s (at + 8))
   wide : kindField s at ≡ 7 → StatesElement s at (wideWord s (at + 4)) (wideWord s (at + 8)) (word s (at + 12))
+
+-- a link's record is of kind 3, or of document 02's kind 8
+abbrev pub IsLink : List ℕ → ℕ → Type 0
+IsLink s at = (kindField s at ≡ 3) ⊎ (kindField s at ≡ 8)
+
+-- so many records stand one behind the other, by their lengths, from the first offset to the second
+pub data Lead (s : List ℕ) : ℕ → ℕ → ℕ → Type 0 where
+  none : {at : ℕ} → Lead s zero at at
+  next : {n at end : ℕ} → Lead s n (at + lengthField s at) end → Lead s (suc n) at end
+
+-- "an earlier switch link": link g, whose record stands behind the head, E elements and g links, stands before the offset and is not fixed
+pub record EarlierSwitch (s : List ℕ) (E at g : ℕ) : Type 0 where
+  pub place : ℕ
+  pub stands : Lead s (1 + E + g) 0 place
+  pub earlier : place < at
+  pub switch : ¬ (word s (place + 8) ≡ 0)
 
 -- "element count E (1 to 64), link count K (0 to 96)"
 pub record InRange (E K : ℕ) : Type 0 where
@@ -75,11 +95,13 @@ BreaksRule s E K at stage HeadOutOfRange = (kindField s at ≡ 1) × ¬ InRange 
 BreaksRule s E K at stage UnknownFlags = (load : ℕ) × (capacity : ℕ) × (flags : ℕ) × StatesElement s at load capacity flags × (3 < flags)
 -- "7. A link has an end of E or more, or two equal ends."
 BreaksRule s E K at stage BadEnds =
-    (kindField s at ≡ 3) × ((E ≤ word s (at + 4)) ⊎ ((E ≤ word s (at + 6)) ⊎ (word s (at + 4) ≡ word s (at + 6))))
--- "8. A link's form exceeds 2."
-BreaksRule s E K at stage UnknownForm = (kindField s at ≡ 3) × (2 < word s (at + 8))
+    IsLink s at × ((E ≤ word s (at + 4)) ⊎ ((E ≤ word s (at + 6)) ⊎ (word s (at + 4) ≡ word s (at + 6))))
+-- "8. A link's form exceeds 2."; document 02, of kind 8: "Form 0 breaks rule 8 here."
+BreaksRule s E K at stage UnknownForm = (IsLink s at × (2 < word s (at + 8))) ⊎ ((kindField s at ≡ 8) × (word s (at + 8) ≡ 0))
 -- "9. A link's cost doesn't suit its form."
-BreaksRule s E K at stage UnsuitedCost = (kindField s at ≡ 3) × ¬ CostSuits (word s (at + 8)) (word s (at + 10))
+BreaksRule s E K at stage UnsuitedCost = IsLink s at × ¬ CostSuits (word s (at + 8)) (word s (at + 10))
+-- document 02: "It refuses, after 9 in the same record and with the same place, with 20 a guard that isn't an earlier switch."
+BreaksRule s E K at stage BadGuard = (kindField s at ≡ 8) × ¬ EarlierSwitch s E at (word s (at + 12))
 -- "10. A plan head has more than 255 steps."
 BreaksRule s E K at stage TooManySteps = (kindField s at ≡ 5) × (255 < word s (at + 4))
 -- "11. A step's link number is K or more."
@@ -99,7 +121,7 @@ BreaksRule s E K at stage BufferTooShort = ⊥
 abbrev pub Keeps : (s : List ℕ) (E K at : ℕ) → Stage → Type 0
 Keeps s E K at stage = (r : Rule) → ¬ BreaksRule s E K at stage r
 
--- "rules 1 to 12 within each record": it breaks this rule, and none that is checked sooner
+-- "rules 1 to 12 within each record", 20 "after 9": it breaks this rule, and none that is checked sooner
 pub record BreaksFirst (s : List ℕ) (E K at : ℕ) (stage : Stage) (r : Rule) : Type 0 where
   pub broken : BreaksRule s E K at stage r
   pub sooner : (q : Rule) → Sooner q r → ¬ BreaksRule s E K at stage q

@@ -37,11 +37,12 @@ goesTo true s = Go s
 goesTo false s = Refused
 
 -- "A network file is one head, E elements, K links, one end. A plan file is one plan head, its steps, one end."
--- Kinds: 1 network head, 2 element, 3 link, 4 end, 5 plan head, 6 step; document 02: "Kind 7 may stand wherever kind 2 may"
+-- Kinds: 1 network head, 2 element, 3 link, 4 end, 5 plan head, 6 step; document 02: "Kind 7 may stand wherever kind 2 may", kind 8 "in the same
+-- places" as kind 3
 unfoldable pub nextStage : Stage → ℕ → Next
 nextStage Head k = goesTo (eqb k 1) Elements
 nextStage Elements k = pick (eqb k 7) (Go Elements) (goesTo (eqb k 2) Elements)
-nextStage Links k = goesTo (eqb k 3) Links
+nextStage Links k = pick (eqb k 8) (Go Links) (goesTo (eqb k 3) Links)
 nextStage End k = goesTo (eqb k 4) PlanHead
 nextStage PlanHead k = goesTo (eqb k 5) Steps
 nextStage Steps k = goesTo (eqb k 6) Steps

@@ -18,7 +18,7 @@ pub enum Next {
     Refused,
 }
 
-const KINDS: usize = 8;
+const KINDS: usize = 9;
 
 // The table's entries: the stages by their numbers, and 8 for refusal 2.
 const ELEMENTS: u8 = 1;
@@ -33,16 +33,16 @@ const OVER: u8 = 7;
 
 const NO: u8 = 8;
 
-// Rows: the stages in their order. Columns: kinds 0 to 7.
-const NEXT: [[u8; 8]; 8] = [
-    [NO, ELEMENTS, NO, NO, NO, NO, NO, NO],
-    [NO, NO, ELEMENTS, NO, NO, NO, NO, ELEMENTS],
-    [NO, NO, NO, LINKS, NO, NO, NO, NO],
-    [NO, NO, NO, NO, PLAN_HEAD, NO, NO, NO],
-    [NO, NO, NO, NO, NO, STEPS, NO, NO],
-    [NO, NO, NO, NO, NO, NO, STEPS, NO],
-    [NO, NO, NO, NO, OVER, NO, NO, NO],
-    [NO, NO, NO, NO, NO, NO, NO, NO],
+// Rows: the stages in their order. Columns: kinds 0 to 8.
+const NEXT: [[u8; 9]; 8] = [
+    [NO, ELEMENTS, NO, NO, NO, NO, NO, NO, NO],
+    [NO, NO, ELEMENTS, NO, NO, NO, NO, ELEMENTS, NO],
+    [NO, NO, NO, LINKS, NO, NO, NO, NO, LINKS],
+    [NO, NO, NO, NO, PLAN_HEAD, NO, NO, NO, NO],
+    [NO, NO, NO, NO, NO, STEPS, NO, NO, NO],
+    [NO, NO, NO, NO, NO, NO, STEPS, NO, NO],
+    [NO, NO, NO, NO, OVER, NO, NO, NO, NO],
+    [NO, NO, NO, NO, NO, NO, NO, NO, NO],
 ];
 
 fn row_of(stage: Stage) -> usize
