@@ -1,10 +1,13 @@
 pub mod Answers
 pub mod Balance
+pub mod Behind
 pub mod Below
 pub mod Bits
 pub mod Capacities
 pub mod Decided
 pub mod Forest
+pub mod Guarded
+pub mod Guards
 pub mod Hanging
 pub mod Joins
 pub mod Labels
@@ -12,6 +15,7 @@ pub mod Load
 pub mod Lows
 pub mod Opening
 pub mod Overloads
+pub mod Prices
 pub mod Printed
 pub mod States
 pub mod Sums

@@ -10,7 +10,8 @@ use native.Mathlib.Omega.{arith}
 use Rattle.feeding.specs.Below.{gate, sumTo}
 use Rattle.feeding.specs.Networks.{Net}
 use Rattle.feeding.specs.Parts.{Config}
-use Rattle.feeding.specs.Plans.{Step, put, run, Good, Valid, costOf, operations, sweep, printedForm, differ, flip, changed, setCost, Pricing, Matched}
+use Rattle.feeding.specs.Plans.{Step, put, run, Good, Valid, operations, sweep, printedForm, differ, flip, changed, Matched}
+use Rattle.feeding.specs.Costs.{stepsCost, switchesCost}
 use Rattle.feeding.specs.Safety.{Safe}
 use Rattle.feeding.specs.Tasks.{Task, Lawful}
 use Rattle.feeding.proofs.Below.{and-left, and-right, ltb-suc, gate-le}
@@ -29,8 +30,8 @@ unfolding run Good
 good-append net op c [] q g h = h
 good-append net op c (s ∷ p) q g h = (g .0, good-append net op _ p q (g .1) h)
 
-cost-append : (net : Net) (p q : List Step) → costOf net (p ++ q) ≡ costOf net p + costOf net q
-unfolding costOf
+cost-append : (net : Net) (p q : List Step) → stepsCost net (p ++ q) ≡ stepsCost net p + stepsCost net q
+unfolding stepsCost
 cost-append net [] q = omega arith
 cost-append net (s ∷ p) q = omega (arith, cost-append net p q)
 
@@ -96,12 +97,12 @@ sweep-good net op w pick c ops states safes (suc n) =
     )
     go false e = tt
 
-cost-sweep : (net : Net) (w : Bool) (pick : ℕ → Bool) (n : ℕ) → costOf net (sweep w pick n) ≡ sumTo n (λ l. gate (pick l) (net .cost l))
-unfolding costOf sweep sumTo
+cost-sweep : (net : Net) (w : Bool) (pick : ℕ → Bool) (n : ℕ) → stepsCost net (sweep w pick n) ≡ sumTo n (λ l. gate (pick l) (net .cost l))
+unfolding stepsCost sweep sumTo
 cost-sweep net w pick zero = refl
 cost-sweep net w pick (suc n) = rw (cost-append net (sweep w pick n), cost-sweep net w pick n) (go (pick n))
   where
-    go : (t : Bool) → sumTo n (λ l. gate (pick l) (net .cost l)) + costOf net (cond t (record { link = n; want = w } ∷ []) [])
+    go : (t : Bool) → sumTo n (λ l. gate (pick l) (net .cost l)) + stepsCost net (cond t (record { link = n; want = w } ∷ []) [])
         ≡ sumTo n (λ l. gate (pick l) (net .cost l)) + gate t (net .cost n)
     go true = omega arith
     go false = omega arith
@@ -166,8 +167,8 @@ unfolding changed
 changed-operable net op q g l d = differs-operable net op (net .startClosed) q l g d
 
 -- the switches whose state two configurations differ in cost no more than the steps between the two
-differ-cost : (net : Net) (c : Config) (q : List Step) → sumTo (net .grid .K) (λ l. gate (differ (c l) (run c q l)) (net .cost l)) ≤ costOf net q
-unfolding run costOf put
+differ-cost : (net : Net) (c : Config) (q : List Step) → sumTo (net .grid .K) (λ l. gate (differ (c l) (run c q l)) (net .cost l)) ≤ stepsCost net q
+unfolding run stepsCost put
 differ-cost net c [] = simp (differ-self, sumTo-none) (omega arith)
 differ-cost net c (s ∷ q) =
     omega (
@@ -195,9 +196,9 @@ differ-cost net c (s ∷ q) =
     point l true e = rw e (omega (arith, gate-le (differ (c l) (run c′ q l)) (net .cost l)))
     point l false e = rw e (omega arith)
 
-pub changed-cost : (net : Net) (q : List Step) → setCost net (changed net q) ≤ costOf net q
-unfolding setCost changed
-changed-cost net q = differ-cost net (net .startClosed) q
+pub changed-steps-cost : (net : Net) (q : List Step) → switchesCost net (changed net q) ≤ stepsCost net q
+unfolding switchesCost changed
+changed-steps-cost net q = differ-cost net (net .startClosed) q
 
 -- ---- the printed form of a set
 
@@ -291,17 +292,13 @@ module _ (net : Net) (D : ℕ → Bool) (inside : (l : ℕ) → D l ≡ true →
       (λ l e. closing-state (ltb l k) (ltb l (net .grid .K)) (net .startClosed l) (D l) (λ d. lt-ltb l (net .grid .K) (inside l d)) e) end-safe)
       (net .grid .K)))
 
-  pub printed-cost : costOf net (printedForm net D) ≡ setCost net D
-  unfolding printedForm opens closes setCost
-  printed-cost =
+  pub printed-steps-cost : stepsCost net (printedForm net D) ≡ switchesCost net D
+  unfolding printedForm opens closes switchesCost
+  printed-steps-cost =
       cost-append net (sweep false (opens net D) (net .grid .K)) (sweep true (closes net D) (net .grid .K))
       ∙ ap₂ _+_ (cost-sweep net false (opens net D) (net .grid .K)) (cost-sweep net true (closes net D) (net .grid .K))
       ∙ sym (sumTo-add (net .grid .K) _ _)
       ∙ sumTo-ext (net .grid .K) _ _ (λ l _. split-cost (D l) (net .startClosed l) (net .cost l))
-
--- the cost of document 01
-pub plain : (net : Net) → Pricing net (costOf net) (setCost net)
-plain net = record { at-most = changed-cost net; printed = printed-cost net }
 
 -- ---- the central theorem: for any task, that is any goal, any set of operable switches and any pricing, a valid list of steps, however it goes, is matched by the
 -- printed form of the switches that it leaves changed, which is valid, operates each of them once and no other, and costs no more

@@ -12,7 +12,8 @@ use Rattle.network.specs.declared.refusal.Answer.{Answer}
 use Rattle.network.specs.declared.refusal.Answer.the-variants.{Accepted}
 use Rattle.feeding.specs.Acceptance.{Starts, Answered, not-a-tree, two-sources, fault-with-source, overloaded, too-many, accepted, answerTo}
 use Rattle.feeding.specs.Networks.{Formed, at, gridOf, netOf}
-use Rattle.feeding.specs.Plans.{Step, run, Good, ValidPlan, Matched, costOf}
+use Rattle.feeding.specs.Plans.{Step, run, Good, ValidPlan, Matched}
+use Rattle.feeding.specs.Costs.{costOf}
 use Rattle.feeding.specs.Restoration.{FixedClosed, Operable, Restored, operables, fedLoad, darkLoad, lostLoad, totalLoad}
 use Rattle.feeding.specs.Safety.{Safe}
 use Rattle.feeding.specs.Tasks.{Lawful, restoration}

@@ -5,5 +5,6 @@ pub mod Loads
 pub mod Safety
 pub mod Restoration
 pub mod Plans
+pub mod Costs
 pub mod Tasks
 pub mod Acceptance

@@ -1,11 +1,11 @@
--- Document 01, "Feeding": a valid plan and its cost; and "The printed plan": its form. The operable set is a parameter, and so is the cost.
+-- Document 01, "Feeding": a valid plan; and "The printed plan": its form. The operable set is a parameter, and so is the cost.
 -- Assumes nothing.
 use mathlib.Core.Path.{_≡_}
 use mathlib.Core.Bool.{Bool, true, false, not, cond, _&&_}
 use mathlib.Core.List.{List, [], _∷_, _++_}
-use Prim.Native.Nat.{ℕ, zero, suc, _+_, _≤_, _<_}
+use Prim.Native.Nat.{ℕ, zero, suc, _+_, _≤_}
 use lib.Dec.{eqb}
-use Rattle.feeding.specs.Below.{sumTo, gate}
+use Rattle.feeding.specs.Below.{gate}
 use Rattle.feeding.specs.Networks.{Net}
 use Rattle.feeding.specs.Parts.{Config}
 use Rattle.feeding.specs.Safety.{Safe, safe?}
@@ -60,12 +60,7 @@ good? net op c (s ∷ q) = goodStep? net op c s && good? net op (put c (s .link)
 unfoldable pub valid? : Net → List Step → Bool
 valid? net q = good? net (operable? net) (net .startClosed) q && restored? net (run (net .startClosed) q)
 
--- ---- cost, and the printed form
-
--- "A step costs what its switch's record states, again at each operation. The cost of a plan is the sum of its steps' costs."
-unfoldable pub costOf : Net → List Step → ℕ
-costOf net [] = zero
-costOf net (s ∷ q) = net .cost (s .link) + costOf net q
+-- ---- the printed form
 
 -- how often a list of steps operates the link l
 unfoldable pub operations : ℕ → List Step → ℕ
@@ -88,17 +83,6 @@ flip c D l = differ (c l) (D l)
 -- the switches whose state a list of steps leaves changed
 unfoldable pub changed : Net → List Step → ℕ → Bool
 changed net q l = differ (net .startClosed l) (run (net .startClosed) q l)
-
--- what the switches of a set cost, each operated once
-unfoldable pub setCost : Net → (ℕ → Bool) → ℕ
-setCost net D = sumTo (net .grid .K) (λ l. gate (D l) (net .cost l))
-
--- a cost of lists and one of sets that agree, by the two laws that the theory needs of them
-pub record Pricing (net : Net) (list : List Step → ℕ) (set : (ℕ → Bool) → ℕ) : Type 0 where
-  -- a set costs at most any list that leaves it changed
-  pub at-most : (q : List Step) → set (changed net q) ≤ list q
-  -- the printed form costs what its set costs
-  pub printed : (D : ℕ → Bool) → ((l : ℕ) → D l ≡ true → l < net .grid .K) → list (printedForm net D) ≡ set D
 
 -- what demand 3 rests on: the printed form of the switches that q leaves changed is valid, operates each of them once, and costs no more
 pub record Matched (net : Net) (op : ℕ → Type 0) (goal : Config → Type 0) (price : List Step → ℕ) (q : List Step) : Type 0 where

@@ -8,7 +8,8 @@ use Prim.Native.Nat.{ℕ, _<_}
 use Rattle.feeding.specs.Networks.{Net}
 use Rattle.feeding.specs.Parts.{Config}
 use Rattle.feeding.specs.Restoration.{Operable, operable?, Restored, restored?}
-use Rattle.feeding.specs.Plans.{Step, costOf, setCost, Pricing}
+use Rattle.feeding.specs.Plans.{Step}
+use Rattle.feeding.specs.Costs.{costOf, setCost, Pricing}
 
 -- the switches that may be operated, by the paper's words and by a test; how many there may be; what the last configuration has to meet, by words and by
 -- a test; and what a list of steps and a set of switches cost
@@ -34,7 +35,7 @@ pub record Lawful (net : Net) (t : Task net) : Type 0 where
 abbrev pub mostOperable : ℕ
 mostOperable = 12
 
--- document 01: its operable switches, "every restorable element is live" in the last configuration, and the sum of the steps' costs
+-- document 01: its operable switches, "every restorable element is live" in the last configuration, and the cost of a plan with its guards
 abbrev pub restoration : (net : Net) → Task net
 restoration net =
     record {

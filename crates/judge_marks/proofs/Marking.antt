@@ -10,7 +10,8 @@ use native.Mathlib.Omega.{arith}
 use Rattle.feeding.specs.Below.{Lowest}
 use Rattle.feeding.specs.Networks.{Net, Formed}
 use Rattle.feeding.specs.Parts.{Config, Live, live?}
-use Rattle.feeding.specs.Plans.{Step, Good, Valid, ValidPlan, run, costOf, printedForm}
+use Rattle.feeding.specs.Plans.{Step, Good, Valid, ValidPlan, run, printedForm}
+use Rattle.feeding.specs.Costs.{costOf}
 use Rattle.feeding.specs.Restoration.{Operable, Restored, restorable?, operable?}
 use Rattle.feeding.specs.Safety.{Safe}
 use Rattle.feeding.proofs.Below.{and-left, and-right, and-both, not-in, not-out}

@@ -12,7 +12,8 @@ use Rattle.feeding.specs.Parts.{Config, Live, live?}
 use Rattle.feeding.specs.Safety.{Safe, safe?}
 use Rattle.feeding.specs.Restoration.{Restorable, Operable, Restored, restorable?}
 use Rattle.feeding.specs.Tasks.{Task, restoration}
-use Rattle.feeding.specs.Plans.{Step, Good, Valid, put, run, differ, costOf}
+use Rattle.feeding.specs.Plans.{Step, Good, Valid, put, run, differ}
+use Rattle.feeding.specs.Costs.{costOf}
 use Rattle.plan_problem.specs.Choosing.{CostsLeastBy, Planning, unplanned, by, plannedBy, printedPlan}
 use Rattle.judge_marks.specs.declared.Reason.{Reason}
 use Rattle.judge_marks.specs.declared.Reason.the-variants.{NotOperable, AlreadySo, Unsafe}
@@ -75,7 +76,7 @@ pub data MarkedBy (net : Net) (op : ℕ → Type 0) (price : List Step → ℕ) 
   short : {e : ℕ} → ShortBy net op q e → MarkedBy net op price q (Mark·.Short e)
   valid : {v : Score} → ValidBy net op price q v → MarkedBy net op price q (Mark·.Valid v)
 
--- ---- document 01: its operable switches, and the sum of the steps' costs
+-- ---- document 01: its operable switches, and the cost of a plan
 
 abbrev pub Marked : Net → List Step → Mark → Type 0
 Marked net q m = MarkedBy net (Operable net) (costOf net) q m

@@ -14,7 +14,8 @@ use Rattle.file_plan.specs.Accepted.{WellFormedPlan}
 use Rattle.feeding.specs.Below.{bits}
 use Rattle.feeding.specs.Networks.{Net, netOf, gridOf, isIn}
 use Rattle.feeding.specs.Acceptance.{Starts}
-use Rattle.feeding.specs.Plans.{Step, Good, ValidPlan, run, costOf}
+use Rattle.feeding.specs.Plans.{Step, Good, ValidPlan, run}
+use Rattle.feeding.specs.Costs.{costOf}
 use Rattle.feeding.specs.Restoration.{Operable, operable?}
 use Rattle.feeding.proofs.Tests.{operable?-in, operable?-out}
 use Rattle.feeding.proofs.Views.{formed-net}

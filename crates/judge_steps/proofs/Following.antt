@@ -13,7 +13,8 @@ use Rattle.file_writer.specs.Writing.{stateNumber}
 use Rattle.feeding.specs.Below.{bits, lowest}
 use Rattle.feeding.specs.Networks.{netOf, gridOf, at, isIn}
 use Rattle.feeding.specs.Parts.{closedIn, live?}
-use Rattle.feeding.specs.Plans.{Step, costOf}
+use Rattle.feeding.specs.Plans.{Step}
+use Rattle.feeding.specs.Costs.{costOf}
 use Rattle.feeding.specs.Restoration.{restorable?}
 use Rattle.feeding.proofs.Lows.{lowest-ext}
 use Rattle.feeding_sets.specs.Sets.{butNot}

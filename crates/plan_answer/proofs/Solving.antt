@@ -7,7 +7,7 @@ use Rattle.network.specs.declared.refusal.Refusal.{Refusal}
 use Rattle.file_network.specs.Inputs.{networkInput, networkRead}
 use Rattle.network.specs.declared.refusal.Answer.the-variants as Answer·
 use Rattle.feeding.specs.Networks.{netOf}
-use Rattle.feeding.specs.Plans.{costOf}
+use Rattle.feeding.specs.Costs.{costOf}
 use Rattle.feeding_acceptance.specs.declared.Admitted.{Admitted}
 use Rattle.feeding_acceptance.specs.Reading.{acceptedRead}
 use Rattle.feeding_start.specs.declared.Start.{Start}

@@ -22,7 +22,7 @@ use Rattle.feeding_start.proofs.Starts.{sound-of, restorable-of}
 use Rattle.plan_stops.specs.Supply.{ownAsk, demand, supply}
 use Rattle.plan_supply.specs.Supply.{askOf, demandIn, Asking}
 use Rattle.plan_sums.specs.Sums.{LoadsReach}
-use Rattle.feeding.specs.Plans.{setCost}
+use Rattle.feeding.specs.Costs.{setCost}
 use Rattle.plan_stops.proofs.Demand.{short-none}
 use Rattle.plan_candidates.specs.Candidates.{asksOf}
 use Rattle.plan_candidates.proofs.Arrays.{sources-at}

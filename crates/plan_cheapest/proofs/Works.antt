@@ -15,7 +15,8 @@ use Rattle.feeding.specs.Below.{bits}
 use Rattle.feeding.specs.Loads.{lowestOver}
 use Rattle.feeding.specs.Networks.{netOf, gridOf, at, isIn}
 use Rattle.feeding.specs.Parts.{Config, closedIn, sound?}
-use Rattle.feeding.specs.Plans.{flip, setCost}
+use Rattle.feeding.specs.Plans.{flip}
+use Rattle.feeding.specs.Costs.{setCost}
 use Rattle.feeding.specs.Restoration.{operablesBy}
 use Rattle.feeding.proofs.Below.{and-left, and-right}
 use Rattle.feeding.proofs.States.{over-same}

@@ -12,7 +12,7 @@ use plan_problem::Best;
 use plan_switches::Switches;
 ghost use mathlib.Core.Path.{_≡_};
 ghost use Rattle.feeding.specs.Networks.{netOf};
-ghost use Rattle.feeding.specs.Plans.{setCost};
+ghost use Rattle.feeding.specs.Costs.{setCost};
 ghost use Rattle.feeding_start.specs.Starting.{operableIn, Searchable};
 ghost use Rattle.plan_problem.specs.Choosing.{works?};
 ghost use Rattle.plan_problem.specs.Sets.{cheapestBy};

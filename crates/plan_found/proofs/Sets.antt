@@ -12,11 +12,13 @@ use Rattle.network.specs.declared.Network.{Network}
 use Rattle.network.specs.Accepted.{WellFormed}
 use Rattle.feeding.specs.Below.{gate}
 use Rattle.feeding.specs.Networks.{Net, gridOf, netOf, at, isIn}
-use Rattle.feeding.specs.Plans.{put, printedForm, flip, setCost, costOf}
+use Rattle.feeding.specs.Plans.{put, printedForm, flip}
+use Rattle.feeding.specs.Costs.{setCost, costOf}
 use Rattle.feeding.specs.Restoration.{operablesBy}
 use Rattle.feeding.proofs.Bits.{at-bits}
 use Rattle.feeding.proofs.Lows.{those-out}
-use Rattle.feeding.proofs.Printed.{printed-run, printed-cost}
+use Rattle.feeding.proofs.Printed.{printed-run}
+use Rattle.feeding.proofs.Prices.{cost-printed}
 use Rattle.feeding_restoration.proofs.Reach.{bits-long}
 use Rattle.feeding_restoration.proofs.Sets.{set-at}
 use Rattle.feeding_start.specs.declared.Start.{Start}
@@ -105,7 +107,7 @@ module _ (st : Start) (ok : Searchable st) {sw : Switches} (sw-is : sw ≡ switc
         → FoundBy n (costOf (netOf n)) (by (printedForm (netOf n) D)) (record { cost = cost; plan = plan; closed = states })
     unfolding costFound planFound lastFound
     set-plan cost plan c p = record {
-      cost = c ∙ sym (printed-cost (netOf n) D inside);
+      cost = c ∙ sym (cost-printed (netOf n) D inside);
       told = omega (arith, c, costs-below n w D);
       plan = p ∙ ap (planWith emptyPlan) form;
       closed = λ l k. in-states l k ∙ ap (λ (x : ℕ → Bool). x l) (sym (printed-run (netOf n) D inside));

@@ -12,7 +12,7 @@ use Rattle.feeding_start.specs.declared.Start.{Start}
 use Rattle.feeding_start.specs.Starting.{operableIn, Begun}
 use Rattle.feeding_start.proofs.Starts.{operables-of}
 use Rattle.feeding.specs.Networks.{Net, netOf}
-use Rattle.feeding.specs.Plans.{costOf, setCost}
+use Rattle.feeding.specs.Costs.{costOf, setCost}
 use Rattle.feeding.specs.Restoration.{Operable, Restored}
 use Rattle.feeding.proofs.Views.{formed-net}
 use Rattle.feeding_acceptance.specs.Reading.{Admission, FirstRule}

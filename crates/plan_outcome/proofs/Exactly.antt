@@ -15,7 +15,8 @@ use Rattle.file_network.specs.Inputs.{networkRead}
 use Rattle.file_network.proofs.NetworkAlike.{network-decided}
 use Rattle.file_network.specs.Runs as Runs
 use Rattle.feeding.specs.Networks.{Net, netOf}
-use Rattle.feeding.specs.Plans.{Step, ValidPlan, costOf, printedForm}
+use Rattle.feeding.specs.Plans.{Step, ValidPlan, printedForm}
+use Rattle.feeding.specs.Costs.{costOf}
 use Rattle.feeding_acceptance.specs.Reading.{acceptedRead, Bytes, AcceptedNetwork, FirstRule}
 use Rattle.feeding_acceptance.proofs.Promises as Admissions
 use Rattle.feeding_acceptance.proofs.Promises.{admission-only, network-once, accepted-unrefused}

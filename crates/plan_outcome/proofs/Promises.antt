@@ -13,7 +13,8 @@ use Rattle.file_network.specs.Inputs.{networkInput, networkRead}
 use Rattle.feeding_acceptance.specs.declared.Admitted.{Admitted}
 use Rattle.feeding.specs.Acceptance.{Starts}
 use Rattle.feeding.specs.Networks.{netOf, gridOf}
-use Rattle.feeding.specs.Plans.{Step, costOf, printedForm, run, setCost}
+use Rattle.feeding.specs.Plans.{Step, printedForm, run}
+use Rattle.feeding.specs.Costs.{costOf, setCost}
 use Rattle.feeding.proofs.Balance.{balance}
 use Rattle.feeding.proofs.Views.{formed-net, fixed-closed, plan-balance}
 use Rattle.feeding_acceptance.specs.Reading.{acceptedRead, Bytes, AcceptedNetwork, FirstRule}

@@ -12,7 +12,8 @@ use Rattle.feeding.specs.Networks.{Net, Formed}
 use Rattle.feeding.specs.Parts.{Config}
 use Rattle.feeding.specs.Safety.{Safe, safe?}
 use Rattle.feeding.specs.Restoration.{operablesBy}
-use Rattle.feeding.specs.Plans.{Step, Valid, run, operations, printedForm, flip, changed, setCost, Matched}
+use Rattle.feeding.specs.Plans.{Step, Valid, run, operations, printedForm, flip, changed, Matched}
+use Rattle.feeding.specs.Costs.{setCost}
 use Rattle.feeding.proofs.Below.{and-left, and-right, and-both}
 use Rattle.feeding.proofs.Decided.{safe?-sound, safe?-complete}
 use Rattle.feeding.proofs.Lows.{those-in, those-out, those-rising}

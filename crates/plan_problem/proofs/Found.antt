@@ -7,7 +7,7 @@ use Prim.Native.Nat.{ℕ, _≤_, _<_}
 use Rattle.network.specs.declared.Network.{Network}
 use Rattle.network.specs.Accepted.{WellFormed}
 use Rattle.feeding.specs.Networks.{gridOf, netOf}
-use Rattle.feeding.specs.Plans.{setCost}
+use Rattle.feeding.specs.Costs.{setCost}
 use Rattle.plan_problem.specs.declared.Best.{Best}
 use Rattle.plan_problem.specs.Choosing.{nothing, chosen, noDearer, best}
 use Rattle.plan_problem.specs.Sets.{setIn, cheapestBy, choiceBy}

@@ -11,7 +11,8 @@ use Rattle.feeding.specs.Below.{gate}
 use Rattle.feeding.specs.Networks.{Net}
 use Rattle.feeding.specs.Parts.{Config}
 use Rattle.feeding.specs.Restoration.{Operable, Restored, operablesBy, restored?}
-use Rattle.feeding.specs.Plans.{Step, Valid, costOf, setCost, operations, printedForm, put, flip}
+use Rattle.feeding.specs.Plans.{Step, Valid, operations, printedForm, put, flip}
+use Rattle.feeding.specs.Costs.{costOf, setCost}
 use Rattle.feeding.specs.Safety.{safe?}
 use Rattle.feeding.specs.Tasks.{Task, restoration}
 
@@ -70,7 +71,7 @@ pub record CostsLeastBy (net : Net) (op : ℕ → Type 0) (goal : Config → Typ
   pub own : price plan ≡ cost
   pub least : (q : List Step) → Valid net op goal q → cost ≤ price q
 
--- ---- document 01: its operable switches, every restorable element live at the end, and the sum of the steps' costs
+-- ---- document 01: its operable switches, every restorable element live at the end, and the cost of a plan
 
 abbrev pub Restores : Net → (ℕ → Bool) → Type 0
 Restores net D = RestoresBy net (Operable net) (Restored net) D

@@ -4,10 +4,11 @@
 use mathlib.Core.Bool.{Bool, true, false}
 use mathlib.Core.List.{List, [], _∷_, _++_}
 use Prim.Native.Nat.{ℕ, zero, suc, _+_, _*_, _/_, _%_}
+use lib.Bits.{bitAnd}
 use lib.Dec.{eqb, ltb}
 use lib.ListN.{length}
 use Rattle.feeding.specs.Below.{gate}
-use Rattle.feeding.specs.Networks.{at}
+use Rattle.feeding.specs.Networks.{Net, at}
 use Rattle.feeding.specs.Plans.{put}
 use Rattle.plan_problem.specs.declared.Best.{Best}
 use Rattle.plan_problem.specs.Choosing.{Choice, nothing, chosen}
@@ -18,10 +19,31 @@ unfoldable pub setOf : (op : ℕ → ℕ) → ℕ → ℕ → (ℕ → Bool)
 setOf op zero s = λ _. false
 setOf op (suc n) s = put (setOf op n (s / 2)) (op n) (eqb (s % 2) 1)
 
--- what the switches of a set cost
-unfoldable pub priceOf : (price : ℕ → ℕ) → ℕ → ℕ → ℕ
-priceOf price zero s = zero
-priceOf price (suc n) s = priceOf price n (s / 2) + gate (eqb (s % 2) 1) (price n)
+-- what the switches of a set cost: `adds i t` is what switch i adds to the choices t of the switches before it
+unfoldable pub priceOf : (adds : ℕ → ℕ → ℕ) → ℕ → ℕ → ℕ
+priceOf adds zero s = zero
+priceOf adds (suc n) s = priceOf adds n (s / 2) + gate (eqb (s % 2) 1) (adds n (s / 2))
+
+-- those of the first n switches that pass the test, as a number: the first has the highest bit, as in `setOf`
+unfoldable pub maskOf : (ℕ → Bool) → ℕ → ℕ
+maskOf f zero = zero
+maskOf f (suc n) = 2 * maskOf f n + gate (f n) 1
+
+-- the charge of a switch's guard, where none of its fellows, the switches before it that have the same guard, is chosen
+unfoldable pub chargeBy : (charge fellows t : ℕ) → ℕ
+chargeBy charge fellows t = gate (eqb (bitAnd t fellows) 0) charge
+
+-- twice the cost of a link's guard, where it has one
+unfoldable pub chargeOf : Net → ℕ → ℕ
+chargeOf net l = gate (ltb (net .guard l) (net .grid .K)) (2 * net .cost (net .guard l))
+
+-- the fellows of switch i, where it has a guard, a number below K; `guard j` is that of switch j
+unfoldable pub fellowsOf : (guard : ℕ → ℕ) → ℕ → ℕ → ℕ
+fellowsOf guard K i = gate (ltb (guard i) K) (maskOf (λ j. eqb (guard j) (guard i)) i)
+
+-- a switch adds its price, and its guard's charge
+unfoldable pub addsBy : (price charge fellows : ℕ → ℕ) → ℕ → ℕ → ℕ
+addsBy price charge fellows i t = price i + chargeBy (charge i) (fellows i) t
 
 -- all sets of n further switches behind the choices s, in the set order
 unfoldable pub setsFrom : ℕ → ℕ → List ℕ

@@ -13,7 +13,8 @@ use Rattle.network.specs.declared.Network.{Network}
 use Rattle.network.specs.Accepted.{WellFormed}
 use Rattle.feeding.specs.Below.{gate}
 use Rattle.feeding.specs.Networks.{at, isIn, netOf, gridOf}
-use Rattle.feeding.specs.Plans.{put, differ, flip, setCost}
+use Rattle.feeding.specs.Plans.{put, differ, flip}
+use Rattle.feeding.specs.Costs.{setCost}
 use Rattle.feeding.specs.Restoration.{operablesBy}
 use Rattle.feeding.proofs.Lows.{those-in, those-out, those-rising}
 use Rattle.plan_problem.specs.Sets.{setOf, priceOf, setIn}

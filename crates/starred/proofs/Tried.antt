@@ -16,7 +16,8 @@ use Rattle.feeding.specs.Parts.{touches, far, relabel, merge, link, labels, lab
 use Rattle.feeding.specs.Loads.{leads, elementLoad, above, elementOver, lowestOver}
 use Rattle.feeding.specs.Safety.{loopAt, looped?, paired?, faultLive?, treePlace, pairPlace, faultPlace, safe?}
 use Rattle.feeding.specs.Restoration.{spoiled?, clean, restorable?, waits?, operable?, operablesBy, restored?, fedLoad, darkLoad, lostLoad}
-use Rattle.feeding.specs.Plans.{put, run, costOf, sweep, printedForm, flip, setCost}
+use Rattle.feeding.specs.Plans.{put, run, sweep, printedForm, flip}
+use Rattle.feeding.specs.Costs.{costOf, setCost}
 use Rattle.feeding.specs.Acceptance.{brokenAt, safety, limited, andThen, acceptanceBy}
 use Rattle.feeding_acceptance.specs.Reading.{unadmitted, handedOut, acceptedFrom, acceptedRead}
 use Rattle.feeding_start.specs.Starting.{startWith}

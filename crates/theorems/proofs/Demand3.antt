@@ -10,7 +10,8 @@ use lib.ListN.{length}
 use Rattle.network.specs.declared.Network.{Network}
 use Rattle.feeding.specs.Tasks.{mostOperable}
 use Rattle.feeding.specs.Networks.{netOf}
-use Rattle.feeding.specs.Plans.{Step, ValidPlan, costOf, operations, printedForm}
+use Rattle.feeding.specs.Plans.{Step, ValidPlan, operations, printedForm}
+use Rattle.feeding.specs.Costs.{costOf}
 use Rattle.feeding.proofs.Below.{gate-le}
 use Rattle.feeding.proofs.Views.{formed-net}
 use Rattle.plan_problem.specs.Choosing.{Picked}

@@ -24,7 +24,8 @@ use Rattle.feeding.specs.Acceptance as Acceptance
 use Rattle.feeding.specs.Parts.{Config}
 use Rattle.feeding.specs.Restoration.{Operable, Operables, operable?, operables, operablesBy, totalLoad}
 use Rattle.feeding.specs.Tasks.{mostOperable, restoration}
-use Rattle.feeding.specs.Plans.{Step, Good, sweep, printedForm, costOf, run}
+use Rattle.feeding.specs.Plans.{Step, Good, sweep, printedForm, run}
+use Rattle.feeding.specs.Costs.{costOf}
 use Rattle.feeding.proofs.Below.{gate-mono, gate-le}
 use Rattle.feeding.proofs.Sums.{sumTo-add, sumTo-mono, sumTo-ext, sumTo-below}
 use Rattle.feeding.proofs.Lows.{length-those}

@@ -23,7 +23,8 @@ use Rattle.file_both.specs.Inputs.{planBehind, planBehindBy, bothInput, bothInp
 use Rattle.file_writer.specs.Writing.{planBytes, planLength}
 use Rattle.file_writer.proofs.RoundTrip.{SameSteps, firstSteps, first-same, round-trip-input}
 use Rattle.feeding.specs.Networks.{netOf, gridOf}
-use Rattle.feeding.specs.Plans.{Step, printedForm, costOf}
+use Rattle.feeding.specs.Plans.{Step, printedForm}
+use Rattle.feeding.specs.Costs.{costOf}
 use Rattle.plan_problem.specs.Choosing.{Choice, nothing, chosen, planned, printedPlan}
 use Rattle.feeding_start.specs.Starting.{startWith}
 use Rattle.plan_form.specs.Printing.{stepsTo, stepsOf}
