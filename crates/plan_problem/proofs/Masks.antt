@@ -88,3 +88,15 @@ mask-meets f (suc n) s =
     ∙ ap₂ _||_ (mask-meets f n (s / 2) ∙ anyTo-ext n _ _ (λ i k. ap (λ b. b && f i) (sym (picked-before n s i (λ e. omega arith)))))
     (ap (λ b. b && f n) (sym (picked-last n s)))
     ∙ sym (any-more n (λ i. picked (suc n) s i && f i))
+
+-- ---- one switch more
+
+pub mask-on : (f : ℕ → Bool) (n mask more : ℕ) → mask ≡ maskOf f n → f n ≡ true → more ≡ 2 * mask + 1 → more ≡ maskOf f (n + 1)
+mask-on f n mask more e t q =
+    let s : n + 1 ≡ suc n = omega arith in
+    omega (arith, ap (maskOf f) s, mask-more f n, ap (λ b. gate b 1) t)
+
+pub mask-off : (f : ℕ → Bool) (n mask more : ℕ) → mask ≡ maskOf f n → f n ≡ false → more ≡ 2 * mask → more ≡ maskOf f (n + 1)
+mask-off f n mask more e t q =
+    let s : n + 1 ≡ suc n = omega arith in
+    omega (arith, ap (maskOf f) s, mask-more f n, ap (λ b. gate b 1) t)

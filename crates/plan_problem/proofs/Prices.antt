@@ -190,7 +190,7 @@ price-set net op (suc n) rising inside s =
 
 pub price-cost : (net : Net) (op : ℕ → Bool) (s : ℕ)
     → priceOf (addsBy (λ i. net .cost (at (operablesBy net op) i)) (λ i. chargeOf net (at (operablesBy net op) i))
-      (fellowsOf (λ j. net .guard (at (operablesBy net op) j)) (net .grid .K))) (length (operablesBy net op)) s
+    (fellowsOf (λ j. net .guard (at (operablesBy net op) j)) (net .grid .K))) (length (operablesBy net op)) s
     ≡ setCost net (setIn (operablesBy net op) s)
 unfolding operablesBy setIn
 price-cost net op s =

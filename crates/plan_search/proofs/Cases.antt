@@ -7,6 +7,7 @@ use Prim.Native.Nat.{ℕ, zero, suc, _+_, _*_, _-_, _/_, _%_, _^_, _<_, _≤_, m
 use native.Mathlib.Nat.{pow-le-pow-right}
 use native.Mathlib.Numerals.{add-one}
 use native.Mathlib.Omega.{arith}
+use lib.Bits.{bitAnd}
 use lib.Dec.{ltb, eqb}
 use lib.ListN.{length, set, length-set}
 use lib.Seq.{set-set, set-getD, getD-set-same, getD-set-other}
@@ -18,8 +19,8 @@ use Rattle.feeding_parts.specs.Labelling.{rootOf}
 use Rattle.feeding_parts.proofs.Roots.{root-in, root-is, falls-set}
 use Rattle.plan_problem.specs.declared.Best.{Best}
 use Rattle.plan_stops.specs.Holding.{clash, together, serves}
-use Rattle.plan_problem.specs.Sets.{keep, priceOf}
-use Rattle.plan_setting.specs.Setting.{Setting, Settled}
+use Rattle.plan_problem.specs.Sets.{keep, priceOf, chargeBy, addsBy}
+use Rattle.plan_setting.specs.Setting.{Setting, Settled, addsIn}
 use Rattle.plan_problem.proofs.Scans.{keep-dear, keep-failed}
 use Rattle.plan_stops.specs.Searching.{bears, carriedOn, joining, dearer}
 use Rattle.plan_stops.proofs.Searched.{decides-open, decides-closed, joins-loop, joins-clash, joins-heavy, joins-on}
@@ -37,25 +38,30 @@ module _ (B : Setting) (z : Settled B) (p h : List ℕ) (i served s cost : ℕ) 
       let top : 2 ^ i ≤ 2 ^ 16 = pow-le-pow-right {n = 2} (omega arith) few in
       omega (arith, k .set-in)
 
-  price-most : (n t : ℕ) → n ≤ B .count → priceOf (B .price) n t ≤ 65535 * n
+  -- a switch adds at most its price and its guard's charge
+  pub added-most : (n t : ℕ) → n < B .count → addsIn B n t ≤ 196606
+  unfolding addsBy chargeBy
+  added-most n t k = omega (arith, gate-le (eqb (bitAnd t (B .fellows n)) 0) (B .charge n), z .price-in n k, z .charge-in n k)
+
+  price-most : (n t : ℕ) → n ≤ B .count → priceOf (addsIn B) n t ≤ 196606 * n
   unfolding priceOf
   price-most zero t few = omega arith
-  price-most (suc n) t few = omega (arith, price-most n (t / 2) (omega arith), gate-le (eqb (t % 2) 1) (B .price n), z .price-in n (omega arith))
+  price-most (suc n) t few = omega (arith, price-most n (t / 2) (omega arith), gate-le (eqb (t % 2) 1) (addsIn B n (t / 2)), added-most n (t / 2) (omega arith))
 
-  pub cost-small : cost ≤ 1048560
+  pub cost-small : cost ≤ 3145696
   cost-small = omega (arith, k .cost-is, price-most i s (k .reached), k .reached, z .fit)
 
   next-in : (t : ℕ) → t ≤ 2 * s + 1 → t < 2 ^ (i + 1)
   next-in t q = rw (add-one i) (omega (arith, k .set-in))
 
-  price-operated : priceOf (B .price) (i + 1) (2 * s + 1) ≡ priceOf (B .price) i s + B .price i
+  price-operated : priceOf (addsIn B) (i + 1) (2 * s + 1) ≡ priceOf (addsIn B) i s + addsIn B i s
   unfolding priceOf
   price-operated =
       let d : (2 * s + 1) / 2 ≡ s = omega arith in
       let r : (2 * s + 1) % 2 ≡ 1 = omega arith in
       rw (add-one i, d, r)
 
-  price-left : priceOf (B .price) (i + 1) (2 * s) ≡ priceOf (B .price) i s
+  price-left : priceOf (addsIn B) (i + 1) (2 * s) ≡ priceOf (addsIn B) i s
   unfolding priceOf
   price-left =
       let d : (2 * s) / 2 ≡ s = omega arith in
@@ -63,7 +69,7 @@ module _ (B : Setting) (z : Settled B) (p h : List ℕ) (i served s cost : ℕ) 
       rw (add-one i, d, r) (omega arith)
 
   -- at the next switch, operated and not
-  pub seeks-operated : (t more : ℕ) → i < B .count → t ≡ 2 * s + 1 → more ≡ cost + B .price i → Seeks B p h (i + 1) served t more
+  pub seeks-operated : (t more : ℕ) → i < B .count → t ≡ 2 * s + 1 → more ≡ cost + addsIn B i s → Seeks B p h (i + 1) served t more
   seeks-operated t more b f e = record {
     reached = omega arith;
     parent-long = k .parent-long;
@@ -71,7 +77,7 @@ module _ (B : Setting) (z : Settled B) (p h : List ℕ) (i served s cost : ℕ) 
     falls = k .falls;
     served-few = omega (arith, k .served-few);
     set-in = next-in t (omega arith);
-    cost-is = omega (arith, e, k .cost-is, price-operated, ap (priceOf (B .price) (i + 1)) f);
+    cost-is = omega (arith, e, k .cost-is, price-operated, ap (priceOf (addsIn B) (i + 1)) f);
   }
 
   pub seeks-left : (p′ h′ : List ℕ) (t : ℕ) → i < B .count → t ≡ 2 * s → p′ ≡ p → h′ ≡ h → Seeks B p′ h′ (i + 1) served t cost
@@ -82,7 +88,7 @@ module _ (B : Setting) (z : Settled B) (p h : List ℕ) (i served s cost : ℕ) 
     falls = k .falls;
     served-few = omega (arith, k .served-few);
     set-in = next-in t (omega arith);
-    cost-is = omega (arith, k .cost-is, price-left, ap (priceOf (B .price) (i + 1)) q);
+    cost-is = omega (arith, k .cost-is, price-left, ap (priceOf (addsIn B) (i + 1)) q);
   })
 
 -- what a function leaves whose result is X
@@ -94,7 +100,7 @@ Leaves X states parent holds spare best′ states′ parent′ holds′ spare′
 
 module _ (B : Setting) (st : List ℕ) (i served s : ℕ) (p h v best : List ℕ) (lb : length best ≡ 2) (reached : i ≤ B .count) where
   abbrev stop : ℕ → ℕ → Best → Bool
-  stop = dearer (priceOf (B .price))
+  stop = dearer (priceOf (addsIn B))
 
   abbrev fitting : ℕ → Bool
   fitting t = fitsIn B (statesBy B (B .count) t st)
@@ -111,7 +117,7 @@ module _ (B : Setting) (st : List ℕ) (i served s : ℕ) (p h v best : List ℕ
       go zero e = rw e (visited-end stop (visitIn B st) (switchingIn B) (B .want) i served s p h v (bestIn best) ∙ rw (lt-ltb served (B .want) (omega arith)))
       go (suc n) e = rw e (visited-short stop (visitIn B st) (switchingIn B) (B .want) n i served s p h v (bestIn best) (lt-ltb _ (B .want) (omega arith)))
 
-  module _ (enough : B .want ≤ served + (B .count - i)) (cost : ℕ) (cost-is : cost ≡ priceOf (B .price) i s) where
+  module _ (enough : B .want ≤ served + (B .count - i)) (cost : ℕ) (cost-is : cost ≡ priceOf (addsIn B) i s) where
     -- nothing behind is cheaper
     pub dear-leaves : at best 0 ≤ cost → Leaves (soughtIn B st i served s p h v (bestIn best)) st p h v best st p h v
     unfolding soughtIn visitIn dearer
@@ -121,26 +127,26 @@ module _ (B : Setting) (st : List ℕ) (i served s : ℕ) (p h v best : List ℕ
         go zero e =
             let f : i ≡ B .count = omega arith in
             rw e (visited-end stop (visitIn B st) (switchingIn B) (B .want) i served s p h v (bestIn best) ∙ rw (le-ltb served (B .want) (omega arith))
-            (keep-dear (priceOf (B .price) (B .count)) fitting (bestIn best) s (omega (arith, q, cost-is, ap (λ (n : ℕ). priceOf (B .price) n s) f))))
+            (keep-dear (priceOf (addsIn B) (B .count)) fitting (bestIn best) s (omega (arith, q, cost-is, ap (λ (n : ℕ). priceOf (addsIn B) n s) f))))
         go (suc n) e = rw e (visited-stops stop (visitIn B st) (switchingIn B) (B .want) n i served s p h v (bestIn best)
-            (le-ltb _ (B .want) (omega arith)) (le-leb (at best 0) (priceOf (B .price) i s) (omega (arith, q, cost-is))))
+            (le-ltb _ (B .want) (omega arith)) (le-leb (at best 0) (priceOf (addsIn B) i s) (omega (arith, q, cost-is))))
 
     -- all switches are chosen
     module _ (cheap : cost < at best 0) (last : B .count - i ≡ 0) (put : Placed B st i s) (r : Bool) (r-is : r ≡ fitsIn B st) where
       all : i ≡ B .count
       all = omega arith
 
-      last-is : soughtIn B st i served s p h v (bestIn best) ≡ keep (priceOf (B .price) (B .count)) fitting (bestIn best) s
+      last-is : soughtIn B st i served s p h v (bestIn best) ≡ keep (priceOf (addsIn B) (B .count)) fitting (bestIn best) s
       unfolding soughtIn visitIn
       last-is = rw last (visited-end stop (visitIn B st) (switchingIn B) (B .want) i served s p h v (bestIn best) ∙ rw (le-ltb served (B .want) (omega arith)))
 
-      price-is : priceOf (B .price) (B .count) s ≡ cost
-      price-is = ap (λ (n : ℕ). priceOf (B .price) n s) (sym all) ∙ sym cost-is
+      price-is : priceOf (addsIn B) (B .count) s ≡ cost
+      price-is = ap (λ (n : ℕ). priceOf (addsIn B) n s) (sym all) ∙ sym cost-is
 
       pub failed-leaves : r ≡ false → Leaves (soughtIn B st i served s p h v (bestIn best)) st p h v best st p h v
-      failed-leaves f = stays (last-is ∙ keep-failed (priceOf (B .price) (B .count)) fitting (bestIn best) s (fits-here B st i s put all r r-is ∙ f))
+      failed-leaves f = stays (last-is ∙ keep-failed (priceOf (addsIn B) (B .count)) fitting (bestIn best) s (fits-here B st i s put all r r-is ∙ f))
 
-      taken : r ≡ true → keep (priceOf (B .price) (B .count)) fitting (bestIn best) s ≡ record { cost = cost; set = s }
+      taken : r ≡ true → keep (priceOf (addsIn B) (B .count)) fitting (bestIn best) s ≡ record { cost = cost; set = s }
       unfolding keep
       taken f = rw (price-is, lt-ltb cost (at best 0) cheap, fits-here B st i s put all r r-is, f, keep) (ap (λ (x : ℕ). record { cost = x; set = s }) price-is)
 
@@ -162,7 +168,7 @@ module _ (B : Setting) (st : List ℕ) (i served s : ℕ) (p h v best : List ℕ
         let even : (2 * s) % 2 ≡ 0 = omega arith in
         let odd : (2 * s + 1) % 2 ≡ 1 = omega arith in
         rw (n, add-one i, even, odd) (visited-next stop (visitIn B st) (switchingIn B) (B .want) (B .count - suc i) i served s p h v b
-        (le-ltb _ (B .want) (omega arith)) (lt-leb (b .cost) (priceOf (B .price) i s) (omega (arith, q, cost-is))))
+        (le-ltb _ (B .want) (omega arith)) (lt-leb (b .cost) (priceOf (addsIn B) i s) (omega (arith, q, cost-is))))
 
     pub both-leave : (best′ best″ st′ st″ p′ p″ h′ h″ v′ v″ : List ℕ) → cost < at best 0 → i < B .count
         → Leaves (decidedIn B st i served (2 * s + 1) p h v (bestIn best)) st p h v best′ st′ p′ h′ v′

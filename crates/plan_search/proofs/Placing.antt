@@ -20,7 +20,7 @@ use Rattle.plan_problem.specs.Sets.{keep, priceOf}
 use Rattle.plan_switches.specs.Switches.{turned, withSet}
 use Rattle.plan_switches.proofs.Columns.{states-set, turned-open, turned-closed}
 use Rattle.plan_switches.proofs.States.{states-over, turned-differ}
-use Rattle.plan_setting.specs.Setting.{Setting, Settled}
+use Rattle.plan_setting.specs.Setting.{Setting, Settled, addsIn}
 use Rattle.plan_stops.specs.Searching.{visited, dearer}
 use Rattle.plan_search.specs.Searching.{Placed, sourceFits, fitsIn, statesBy, visitIn, switchingIn, soughtIn}
 
@@ -102,14 +102,14 @@ module _ (B : Setting) (z : Settled B) (states : List ℕ) (i s : ℕ) (p : Plac
 
   visit-over : visitIn B (set states (B .link i) 1) ≡ visitIn B states
   unfolding visitIn
-  visit-over = ap (keep (priceOf (B .price) (B .count)))
+  visit-over = ap (keep (priceOf (addsIn B) (B .count)))
       (fun-ext (λ t. ap (fitsIn B) (states-over (B .link) (B .closed) (B .count) (z .apart) t states i 1 k)))
 
   pub sought-over : (j served t : ℕ) (parent holds spare : List ℕ) (b : Best)
       → soughtIn B (set states (B .link i) 1) j served t parent holds spare b ≡ soughtIn B states j served t parent holds spare b
   unfolding soughtIn
   sought-over j served t parent holds spare b =
-      ap (λ (visit : Best → ℕ → Best). visited (dearer (priceOf (B .price))) visit (switchingIn B) (B .want) (B .count - j) j served t parent holds spare b) visit-over
+      ap (λ (visit : Best → ℕ → Best). visited (dearer (priceOf (addsIn B))) visit (switchingIn B) (B .want) (B .count - j) j served t parent holds spare b) visit-over
 
   -- the switch is opened again
   pub state-undone : (states′ : List ℕ) (v : ℕ) → v ≡ 0 → states′ ≡ set states (B .link i) 1 → set states′ (B .link i) v ≡ states

@@ -16,7 +16,7 @@ use Rattle.plan_problem.specs.declared.Best.{Best}
 use Rattle.plan_stops.specs.Searching.{Switching, deciding, joining, visited, dearer}
 use Rattle.plan_problem.specs.Sets.{keep, priceOf}
 use Rattle.plan_switches.specs.Switches.{withSet}
-use Rattle.plan_setting.specs.Setting.{Setting}
+use Rattle.plan_setting.specs.Setting.{Setting, addsIn}
 
 -- the best set so far in an array: its cost, its number
 abbrev pub bestIn : List ℕ → Best
@@ -37,7 +37,7 @@ statesBy B n s states = withSet (B .link) (B .closed) n s states
 
 -- a whole set in the place of the best one, where it is cheaper and fits
 unfoldable pub visitIn : Setting → (states : List ℕ) → Best → ℕ → Best
-visitIn B states = keep (priceOf (B .price) (B .count)) (λ s. fitsIn B (statesBy B (B .count) s states))
+visitIn B states = keep (priceOf (addsIn B) (B .count)) (λ s. fitsIn B (statesBy B (B .count) s states))
 
 abbrev pub switchingIn : Setting → Switching
 switchingIn B = record { endA = B .from; endB = B .to; closed = λ i. eqb (B .closed i) 1 }
@@ -45,7 +45,7 @@ switchingIn B = record { endA = B .from; endB = B .to; closed = λ i. eqb (B .cl
 -- the search with n switches left, from switch i on
 abbrev pub soughtFrom : Setting → (states : List ℕ) (n i served s : ℕ) (parent holds spare : List ℕ) → Best → Best
 soughtFrom B states n i served s parent holds spare =
-    visited (dearer (priceOf (B .price))) (visitIn B states) (switchingIn B) (B .want) n i served s parent holds spare
+    visited (dearer (priceOf (addsIn B))) (visitIn B states) (switchingIn B) (B .want) n i served s parent holds spare
 
 unfoldable pub soughtIn : Setting → (states : List ℕ) (i served s : ℕ) (parent holds spare : List ℕ) → Best → Best
 soughtIn B states i served s parent holds spare = soughtFrom B states (B .count - i) i served s parent holds spare
@@ -67,7 +67,7 @@ pub record Seeks (B : Setting) (parent holds : List ℕ) (i served s cost : ℕ)
   pub falls : Falls parent
   pub served-few : served ≤ i
   pub set-in : s < 2 ^ i
-  pub cost-is : cost ≡ priceOf (B .price) i s
+  pub cost-is : cost ≡ priceOf (addsIn B) i s
 
 -- the states are those that the choices s for the first i switches leave, and the switches ahead are open; the walk's arrays serve the states of any set
 pub record Placed (B : Setting) (states : List ℕ) (i s : ℕ) : Type 0 where

@@ -13,6 +13,7 @@ ghost use Prim.Native.Nat.{_+_, _/_, _%_, _<_, _≤_, min, max};
 ghost use lib.ListN.{length};
 ghost use Rattle.feeding.specs.Networks.{at};
 ghost use Rattle.feeding_walks.specs.Packing.{PackedLent};
+ghost use Rattle.plan_problem.specs.Sets.{addsBy};
 ghost use Rattle.plan_switches.specs.Switches.{turned};
 ghost use Rattle.plan_setting.specs.Setting.{Settled, settingIn};
 ghost use Rattle.plan_supply.specs.Supply.{Light};
@@ -38,7 +39,7 @@ fn higher(x: usize, y: usize) -> usize
 
 // Whether the loads stay within capacity in these states: a walk from each source.
 fn loads_fit<'a>(
-    fix: &'a [u32; 160],
+    fix: &'a [u32; 192],
     ends: &'a [u8; 448],
     rate: &'a [u32; 128],
     on: &'a [u8; 96],
@@ -61,9 +62,24 @@ fn loads_fit<'a>(
     true
 }
 
+// What switch i adds to the cost of the choices before it: its price, and its guard's charge where none of its fellows is chosen.
+fn added_by<'a>(fix: &'a [u32; 192], i: usize, set: usize) -> u64
+    requires { ⌜ i < 16 ⌝ }
+    ensures { λ r. ⌜ r ≡ addsBy (λ j. at (now (fix .entry)) (64 + j)) (λ j. at (now (fix .entry)) (160 + j)) (λ j. at (now (fix .entry)) (176 + j)) i set ⌝ }
+{
+    let price = fix[64 + i] as u64;
+    let charge = fix[160 + i] as u64;
+    let fellows = fix[176 + i] as usize;
+    let chosen = set & fellows;
+    if chosen == 0 {
+        return price + charge;
+    }
+    price
+}
+
 // The sets behind the choices `set` for the first i switches, which cost `cost`: each in the place of the best one, where it is cheaper and its loads fit.
 pub fn seek<'a>(
-    fix: &'a [u32; 160],
+    fix: &'a [u32; 192],
     ends: &'a [u8; 448],
     rate: &'a [u32; 128],
     on: &mut [u8; 96],
@@ -104,14 +120,14 @@ pub fn seek<'a>(
     }
     let t = 2 * set;
     let s = t + 1;
-    let more = cost + fix[64 + i] as u64;
+    let more = cost + added_by(fix, i, set);
     decide(fix, ends, rate, on, up, has, spare, best, i, fed, s, more);
     decide(fix, ends, rate, on, up, has, spare, best, i, fed, t, cost)
 }
 
 // With switch i operated, or left as it was: the lowest bit of the set says which.
 fn decide<'a>(
-    fix: &'a [u32; 160],
+    fix: &'a [u32; 192],
     ends: &'a [u8; 448],
     rate: &'a [u32; 128],
     on: &mut [u8; 96],
@@ -147,7 +163,7 @@ fn decide<'a>(
 
 // With switch i closed: stops at a loop, a clash or too much load, and takes the join back after the sets below it.
 fn join<'a>(
-    fix: &'a [u32; 160],
+    fix: &'a [u32; 192],
     ends: &'a [u8; 448],
     rate: &'a [u32; 128],
     on: &mut [u8; 96],

@@ -22,15 +22,15 @@ use Rattle.plan_setting.specs.Setting.{Listed, Packed}
 
 -- the members of the set among the first elements, from 80 on
 pub record SourcesTo (sound : List ℕ) (s n : ℕ) (xs : List ℕ) : Type 0 where
-  pub long : length xs ≡ 160
+  pub long : length xs ≡ 192
   pub few : n ≤ s
   pub many : n ≡ length (members sound s)
   pub source-at : (j : ℕ) → j < n → at xs (80 + j) ≡ at (members sound s) j
 
-pub sources-none : (sound : List ℕ) → SourcesTo sound 0 0 (replicate 160 0)
+pub sources-none : (sound : List ℕ) → SourcesTo sound 0 0 (replicate 192 0)
 unfolding members those
 sources-none sound = record {
-  long = length-replicate {A = ℕ} 160 0;
+  long = length-replicate {A = ℕ} 192 0;
   few = omega arith;
   many = refl;
   source-at = λ j k. absurd (omega arith);
@@ -88,7 +88,7 @@ few-members sound n =
 
 -- the first i switches are in their columns, and from 80 on the array is as before
 pub record ColumnsTo (from to closed link price before : List ℕ) (i : ℕ) (xs : List ℕ) : Type 0 where
-  pub long : length xs ≡ 160
+  pub long : length xs ≡ 192
   pub from-at : (j : ℕ) → j < i → at xs j ≡ at from j
   pub to-at : (j : ℕ) → j < i → at xs (16 + j) ≡ at to j
   pub closed-at : (j : ℕ) → j < i → at xs (32 + j) ≡ at closed j
@@ -96,7 +96,7 @@ pub record ColumnsTo (from to closed link price before : List ℕ) (i : ℕ) (xs
   pub price-at : (j : ℕ) → j < i → at xs (64 + j) ≡ at price j
   pub kept : (k : ℕ) → 80 ≤ k → at xs k ≡ at before k
 
-pub columns-none : (from to closed link price before : List ℕ) → length before ≡ 160 → ColumnsTo from to closed link price before 0 before
+pub columns-none : (from to closed link price before : List ℕ) → length before ≡ 192 → ColumnsTo from to closed link price before 0 before
 columns-none from to closed link price before long = record {
   long = long;
   from-at = λ j k. absurd (omega arith);
@@ -108,7 +108,7 @@ columns-none from to closed link price before long = record {
 }
 
 -- five entries put, one in each column
-module _ (xs : List ℕ) (long : length xs ≡ 160) (i : ℕ) (few : i < 16) (a b c d e : ℕ) where
+module _ (xs : List ℕ) (long : length xs ≡ 192) (i : ℕ) (few : i < 16) (a b c d e : ℕ) where
   abbrev put₁ : List ℕ
   put₁ = set xs i a
 
@@ -124,7 +124,7 @@ module _ (xs : List ℕ) (long : length xs ≡ 160) (i : ℕ) (few : i < 16) (a 
   abbrev put : List ℕ
   put = set put₄ (64 + i) e
 
-  length-put : length put ≡ 160
+  length-put : length put ≡ 192
   length-put = simp length-set long
 
   put-other : (k : ℕ) → ((m : ℕ) → m < 5 → k ≡ 16 * m + i → ⊥) → at put k ≡ at xs k

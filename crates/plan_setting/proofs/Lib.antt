@@ -1,2 +1,3 @@
+pub mod Charges
 pub mod Filling
 pub mod Settled

@@ -2,13 +2,16 @@
 -- Assumes nothing.
 use mathlib.Core.Path.{_≡_}
 use mathlib.Core.List.{List}
-use Prim.Native.Nat.{ℕ, _+_, _<_, _≤_}
+use Prim.Native.Nat.{ℕ, _+_, _*_, _<_, _≤_}
+use lib.Dec.{ltb}
 use lib.ListN.{length}
+use Rattle.feeding.specs.Below.{gate}
 use Rattle.feeding.specs.Networks.{at}
+use Rattle.plan_problem.specs.Sets.{fellowsOf, addsBy}
 use Rattle.plan_switches.specs.declared.Switches.{Switches}
 use Rattle.plan_switches.specs.Switches.{SwitchReach}
 
--- switch i's ends, its state at the start, its link and its price; source j from which loads are walked; how many switches there are, how many parts are to
+-- switch i's ends, its state at the start, its link, its price, its guard's charge and its fellows; source j from which loads are walked; how many switches there are, how many parts are to
 -- be served, how many sources, elements and links; and the walk's own arrays
 pub record Setting : Type 0 where
   pub from : ℕ → ℕ
@@ -16,6 +19,8 @@ pub record Setting : Type 0 where
   pub closed : ℕ → ℕ
   pub link : ℕ → ℕ
   pub price : ℕ → ℕ
+  pub charge : ℕ → ℕ
+  pub fellows : ℕ → ℕ
   pub source : ℕ → ℕ
   pub count : ℕ
   pub want : ℕ
@@ -25,7 +30,7 @@ pub record Setting : Type 0 where
   pub chain : List ℕ
   pub rating : List ℕ
 
--- columns of 16, the sources from 80 on, and the numbers from 144 on
+-- columns of 16, the sources from 80 on, the numbers from 144 on, and two columns more
 abbrev pub settingIn : (fixed chain rating : List ℕ) → Setting
 settingIn fixed chain rating =
     record {
@@ -34,6 +39,8 @@ settingIn fixed chain rating =
       closed = λ i. at fixed (32 + i);
       link = λ i. at fixed (48 + i);
       price = λ i. at fixed (64 + i);
+      charge = λ i. at fixed (160 + i);
+      fellows = λ i. at fixed (176 + i);
       source = λ j. at fixed (80 + j);
       count = at fixed 144;
       want = at fixed 145;
@@ -68,9 +75,19 @@ pub record Packed (fixed : List ℕ) (sw : Switches) (sources : List ℕ) (want 
 
 -- the sources of the list, in an array that holds nothing else
 pub record Listed (fixed : List ℕ) (sources : List ℕ) : Type 0 where
-  pub long : length fixed ≡ 160
+  pub long : length fixed ≡ 192
   pub source-at : (j : ℕ) → j < length sources → at fixed (80 + j) ≡ at sources j
   pub sources-are : at fixed 146 ≡ length sources
+
+-- two columns more: the charges of the guards and the fellows of the switches that are these links, with the rest as before
+pub record Charging (guard cost : List ℕ) (K : ℕ) (link : List ℕ) (count : ℕ) (before fixed : List ℕ) : Type 0 where
+  pub charge-at : (i : ℕ) → i < count → at fixed (160 + i) ≡ gate (ltb (at guard (at link i)) K) (2 * at cost (at guard (at link i)))
+  pub fellows-at : (i : ℕ) → i < count → at fixed (176 + i) ≡ fellowsOf (λ j. at guard (at link j)) K i
+  pub kept : (k : ℕ) → k < 160 → at fixed k ≡ at before k
+
+-- what switch i adds to the choices before it
+abbrev pub addsIn : Setting → ℕ → ℕ → ℕ
+addsIn B = addsBy (B .price) (B .charge) (B .fellows)
 
 -- what a search asks of its setting: the numbers fit, and the switches differ
 pub record Settled (B : Setting) : Type 0 where
@@ -81,6 +98,7 @@ pub record Settled (B : Setting) : Type 0 where
   pub link-in : (i : ℕ) → i < B .count → B .link i < 96
   pub apart : (i j : ℕ) → i < j → j < B .count → B .link i ≡ B .link j → ⊥
   pub price-in : (i : ℕ) → i < B .count → B .price i < 65536
+  pub charge-in : (i : ℕ) → i < B .count → B .charge i < 131072
   pub want-in : B .want ≤ 64
   pub sources-fit : B .sources ≤ 64
   pub source-in : (j : ℕ) → j < B .sources → B .source j < B .elements

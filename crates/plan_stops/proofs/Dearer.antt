@@ -20,8 +20,8 @@ pub dear-goes-on : (floor : ℕ → ℕ → ℕ) (m : ℕ) → ((i s : ℕ) (d :
 unfolding dearer
 dear-goes-on floor m rises i s b d k q = le-leb (b .cost) _ (omega (arith, leb-true (b .cost) (floor i s) q, rises i s d k))
 
--- as it does where a set's price is the sum of its switches' prices
-pub price-rises : (price : ℕ → ℕ) (i s : ℕ) (d : Bool) → priceOf price i s ≤ priceOf price (suc i) (next d s)
+-- as it does where a set's price is the sum of what its switches add
+pub price-rises : (adds : ℕ → ℕ → ℕ) (i s : ℕ) (d : Bool) → priceOf adds i s ≤ priceOf adds (suc i) (next d s)
 unfolding priceOf
-price-rises price i s true = let e : (2 * s + 1) / 2 ≡ s = omega arith in rw e (omega arith)
-price-rises price i s false = let e : 2 * s / 2 ≡ s = omega arith in rw e (omega arith)
+price-rises adds i s true = let e : (2 * s + 1) / 2 ≡ s = omega arith in rw e (omega arith)
+price-rises adds i s false = let e : 2 * s / 2 ≡ s = omega arith in rw e (omega arith)

@@ -169,11 +169,11 @@ set-ext op op′ zero s l h = refl
 set-ext op op′ (suc n) s l h =
     ap₂ (λ m b. cond (eqb l m) (eqb (s % 2) 1) b) (h n (omega arith)) (set-ext op op′ n (s / 2) l (λ j k. h j (omega arith)))
 
-pub price-ext : (price price′ : ℕ → ℕ) (n s : ℕ) → ((j : ℕ) → j < n → price j ≡ price′ j) → priceOf price n s ≡ priceOf price′ n s
+pub price-ext : (adds adds′ : ℕ → ℕ → ℕ) (n s : ℕ) → ((j t : ℕ) → j < n → adds j t ≡ adds′ j t) → priceOf adds n s ≡ priceOf adds′ n s
 unfolding priceOf
-price-ext price price′ zero s h = refl
-price-ext price price′ (suc n) s h =
-    omega (arith, price-ext price price′ n (s / 2) (λ j k. h j (omega arith)), ap (gate (eqb (s % 2) 1)) (h n (omega arith)))
+price-ext adds adds′ zero s h = refl
+price-ext adds adds′ (suc n) s h =
+    omega (arith, price-ext adds adds′ n (s / 2) (λ j t k. h j t (omega arith)), ap (gate (eqb (s % 2) 1)) (h n (s / 2) (omega arith)))
 
 -- ---- columns
 
@@ -300,7 +300,3 @@ module _ (n : Network) (well : WellFormed n) (op : ℕ → Bool) (free : (l : �
         s l (replicate 96 0) (λ j h. omega (arith, length-replicate {A = ℕ} 96 0, link-reach .link-in j h))
         (λ h. ap (λ x. eqb x 1) (zero-at 96 l))
         ∙ set-same s l
-
-    -- what the set costs
-    pub price-set : (s : ℕ) → priceOf (at (sw .price)) (length ops) s ≡ setCost (netOf n) (setIn ops s)
-    price-set s = price-ext (at (sw .price)) (λ i. netOf n .cost (at ops i)) (length ops) s price-at ∙ price-cost (netOf n) op s
