@@ -1,22 +1,27 @@
 -- The search tries the candidates in turn: its setting holds the network's switches and sources, and it starts from their parts.
 -- Assumes nothing.
 use mathlib.Core.Path.{_≡_, refl, sym, ap, subst, _∙_}
-use mathlib.Core.Bool.{Bool, true}
+use mathlib.Core.Bool.{Bool, true, false}
 use mathlib.Core.List.{List}
-use Prim.Native.Nat.{ℕ, _+_, _-_, _<_, _≤_}
+use Prim.Native.Nat.{ℕ, _+_, _*_, _-_, _<_, _≤_}
 use native.Mathlib.Omega.{arith}
-use lib.Dec.{eqb}
+use lib.Dec.{eqb, ltb}
+use borrow.Author.Tests.{ltb-true}
 use lib.ListN.{length}
 use Rattle.network.specs.declared.Network.{Network}
 use Rattle.network.specs.Accepted.{WellFormed}
 use Rattle.feeding.specs.Networks.{netOf, gridOf, at, isIn}
 use Rattle.feeding.specs.Parts.{closedIn}
+use Rattle.feeding.specs.Costs.{setCost}
+use Rattle.feeding.proofs.Below.{gate-le}
 use Rattle.feeding.proofs.Lows.{those-out}
 use Rattle.feeding.proofs.Views.{formed-net}
 use Rattle.feeding_loads.specs.Walks.{walkGrid}
 use Rattle.feeding_walks.specs.Packing.{packedGrid}
 use Rattle.plan_problem.specs.declared.Best.{Best}
-use Rattle.plan_problem.specs.Sets.{keep, priceOf, scan}
+use Rattle.plan_problem.specs.Sets.{keep, priceOf, chargeOf, fellowsOf, addsBy, scan, setIn}
+use Rattle.plan_problem.proofs.Masks.{fellows-ext}
+use Rattle.plan_problem.proofs.Prices.{price-cost}
 use Rattle.plan_stops.proofs.Carried.{CarriedParts}
 use Rattle.plan_problem.proofs.Rising.{at-member}
 use Rattle.plan_problem.proofs.Scans.{keep-dear, scan-ext}
@@ -24,7 +29,8 @@ use Rattle.feeding_sets.specs.Sets.{members}
 use Rattle.plan_switches.specs.declared.Switches.{Switches}
 use Rattle.plan_switches.specs.Switches.{switchList, withSet}
 use Rattle.plan_switches.proofs.States as States
-use Rattle.plan_setting.specs.Setting.{Setting, settingIn, Columns, Packed, Settled}
+use Rattle.plan_setting.specs.Setting.{Setting, settingIn, addsIn, Columns, Packed, Charging, Settled}
+use Rattle.plan_setting.proofs.Charges.{packed-charged}
 use Rattle.plan_setting.proofs.Filling.{few-members}
 use Rattle.plan_setting.proofs.Settled.{settled}
 use Rattle.plan_stops.specs.Searching.{dearer}
@@ -71,8 +77,13 @@ module _ (st : Start) (ok : Searchable st) (sw : Switches) (sw-is : sw ≡ switc
         price-in = λ i k. omega (arith, States.price-at n w op (ok .switches) few i k, w .cost-in (at (operableIn st) i) (States.operable-in n w op (ok .switches) i k .0));
       }
 
-  -- the setting that was packed
-  module _ {fixed : List ℕ} {want : ℕ} (p : Packed fixed sw (members (st .sound) (n .elements)) want (n .elements) (n .links)) (chain rating : List ℕ) where
+  -- the setting that was packed, with its charges
+  module _ {before fixed : List ℕ} {want : ℕ} (packed : Packed before sw (members (st .sound) (n .elements)) want (n .elements) (n .links))
+      (charging : Charging (n .guard) (n .cost) (n .links) (sw .link) (sw .count) before fixed) (chain rating : List ℕ) where
+    abbrev p : Packed fixed sw (members (st .sound) (n .elements)) want (n .elements) (n .links)
+    p = packed-charged (n .guard) (n .cost) (n .links) (sw .link) (sw .count) before fixed sw (members (st .sound) (n .elements)) want (n .elements) (n .links)
+        charging (columns .reach .fit) (omega (arith, few-members (st .sound) (n .elements), w .elements-fit)) packed
+
     abbrev B : Setting
     B = settingIn fixed chain rating
 
@@ -95,10 +106,38 @@ module _ (st : Start) (ok : Searchable st) (sw : Switches) (sw-is : sw ≡ switc
         (λ i k. (p .link-at i (omega (arith, p .count-is)), p .closed-at i (omega (arith, p .count-is))))
         ∙ ap (λ (m : ℕ). withSet (at (sw .link)) (at (sw .closed)) m s left) (p .count-is)
 
-    price-by : (s : ℕ) → priceOf (λ i. at fixed (64 + i)) (at fixed 144) s ≡ priceOf (at (sw .price)) (sw .count) s
+    link-at : (i : ℕ) → i < length (operableIn st) → at (sw .link) i ≡ at (operableIn st) i
+    link-at i k = ap (λ (x : Switches). at (x .link) i) sw-is ∙ States.link-at n w op (ok .switches) few i k
+
+    price-at : (i : ℕ) → i < length (operableIn st) → at fixed (64 + i) ≡ netOf n .cost (at (operableIn st) i)
+    price-at i k = p .price-at i (in-count i k) ∙ ap (λ (x : Switches). at (x .price) i) sw-is ∙ States.price-at n w op (ok .switches) few i k
+
+    charge-at : (i : ℕ) → i < length (operableIn st) → at fixed (160 + i) ≡ chargeOf (netOf n) (at (operableIn st) i)
+    unfolding chargeOf netOf gridOf
+    charge-at i k = charging .charge-at i (in-count i k) ∙ rw (link-at i k)
+
+    fellows-at : (i : ℕ) → i < length (operableIn st) → at fixed (176 + i) ≡ fellowsOf (λ j. netOf n .guard (at (operableIn st) j)) (netOf n .grid .K) i
+    unfolding netOf gridOf
+    fellows-at i k = charging .fellows-at i (in-count i k) ∙ fellows-ext _ _ (n .links) i (λ j h. ap (at (n .guard)) (link-at j (omega arith)))
+
+    charges-small : (i : ℕ) → i < sw .count → at fixed (160 + i) < 131072
+    charges-small i k = go (ltb (at (n .guard) (at (sw .link) i)) (n .links)) refl
+      where
+        go : (t : Bool) → ltb (at (n .guard) (at (sw .link) i)) (n .links) ≡ t → at fixed (160 + i) < 131072
+        go true t = omega (arith, charging .charge-at i k, w .cost-in (at (n .guard) (at (sw .link) i)) (ltb-true (at (n .guard) (at (sw .link) i)) (n .links) t), gate-le (ltb (at (n .guard) (at (sw .link) i)) (n .links)) (2 * at (n .cost) (at (n .guard) (at (sw .link) i))))
+        go false t = let none : at fixed (160 + i) ≡ 0 = charging .charge-at i k ∙ rw t refl in omega arith
+
+    price-by : (s : ℕ) → priceOf (addsIn (settingIn fixed chain rating)) (at fixed 144) s ≡ setCost (netOf n) (setIn (operableIn st) s)
+    unfolding addsBy
     price-by s =
-        States.price-ext (λ i. at fixed (64 + i)) (at (sw .price)) (at fixed 144) s (λ i k. p .price-at i (omega (arith, p .count-is)))
-        ∙ ap (λ (m : ℕ). priceOf (at (sw .price)) m s) (p .count-is)
+        States.price-ext (addsIn (settingIn fixed chain rating)) adds (at fixed 144) s
+        (λ i t k. let b : i < length (operableIn st) = omega (arith, p .count-is, count-is) in rw (price-at i b, charge-at i b, fellows-at i b) refl)
+        ∙ ap (λ (m : ℕ). priceOf adds m s) (p .count-is ∙ count-is)
+        ∙ price-cost (netOf n) op s
+      where
+        adds : ℕ → ℕ → ℕ
+        adds = addsBy (λ i. netOf n .cost (at (operableIn st) i)) (λ i. chargeOf (netOf n) (at (operableIn st) i))
+            (fellowsOf (λ j. netOf n .guard (at (operableIn st) j)) (netOf n .grid .K))
 
     -- the walks from the list
     fits-by : (s : ℕ) (left : List ℕ) → fitsIn (settingIn fixed chain rating) (statesBy (settingIn fixed chain rating) (at fixed 144) s left) ≡ fittingIn st sw left chain rating s
@@ -109,7 +148,7 @@ module _ (st : Start) (ok : Searchable st) (sw : Switches) (sw-is : sw ≡ switc
 
     pub setting-settled : want ≤ 64 → Settled (settingIn fixed chain rating)
     unfolding members
-    setting-settled little = settled fixed chain rating sw (members (st .sound) (n .elements)) want (n .elements) (n .links) p columns little (w .elements-fit) (w .links-fit)
+    setting-settled little = settled fixed chain rating sw (members (st .sound) (n .elements)) want (n .elements) (n .links) p columns charges-small little (w .elements-fit) (w .links-fit)
         (omega (arith, few-members (st .sound) (n .elements), w .elements-fit)) inside
       where
         inside : (j : ℕ) → j < length (members (st .sound) (n .elements)) → at (members (st .sound) (n .elements)) j < n .elements
@@ -139,13 +178,13 @@ module _ (st : Start) (ok : Searchable st) (sw : Switches) (sw-is : sw ≡ switc
 
       -- the theorem: the candidates are tried in turn
       pub sought : (left : List ℕ) (b : Best) → soughtIn (settingIn fixed chain rating) left 0 0 0 (origin .label) (origin .holds) (origin .spare) b
-          ≡ scan (keep (priceOf (at (sw .price)) (sw .count)) (fittingIn st sw left chain rating)) (candidatesOf (netOf n) op) b
+          ≡ scan (keep (λ s. setCost (netOf n) (setIn (operableIn st) s)) (fittingIn st sw left chain rating)) (candidatesOf (netOf n) op) b
       unfolding soughtIn visitIn candidatesOf suppliedCandidate?
       sought left b =
           let e : at fixed 144 - 0 ≡ m = omega (arith, p .count-is, count-is) in
           rw e
-          (searched-restoring (netOf n) (formed-net n w) op inside (switchingIn B) from-at to-at shut-at (dearer (priceOf (B .price))) (keep price fits)
-          (dear-goes-on (priceOf (B .price)) m (λ j t o _. price-rises (B .price) j t o)) unkept (asksOf (netOf n)) (B .want)
+          (searched-restoring (netOf n) (formed-net n w) op inside (switchingIn B) from-at to-at shut-at (dearer (priceOf (addsIn B))) (keep price fits)
+          (dear-goes-on (priceOf (addsIn B)) m (λ j t o _. price-rises (addsIn B) j t o)) unkept (asksOf (netOf n)) (B .want)
           (origin .label) (origin .holds) (origin .spare) b carried (from .weighed)
           ∙ scan-ext price _ fits _ price-by (λ s. fits-by s left) (candidatesOf (netOf n) op) b)
         where
@@ -156,12 +195,12 @@ module _ (st : Start) (ok : Searchable st) (sw : Switches) (sw-is : sw ≡ switc
           m = length (operableIn st)
 
           price : ℕ → ℕ
-          price = priceOf (B .price) (B .count)
+          price = priceOf (addsIn B) (B .count)
 
           fits : ℕ → Bool
           fits s = fitsIn B (statesBy B (B .count) s left)
 
           -- nothing that costs as much as the best so far is kept
-          unkept : (s : ℕ) (d : Best) → dearer (priceOf (B .price)) m s d ≡ true → keep price fits d s ≡ d
+          unkept : (s : ℕ) (d : Best) → dearer (priceOf (addsIn B)) m s d ≡ true → keep price fits d s ≡ d
           unkept s d q = keep-dear price fits d s
-              (omega (arith, dear-out (priceOf (B .price)) m s d q, ap (λ (k : ℕ). priceOf (B .price) k s) (p .count-is ∙ count-is)))
+              (omega (arith, dear-out (priceOf (addsIn B)) m s d q, ap (λ (k : ℕ). priceOf (addsIn B) k s) (p .count-is ∙ count-is)))

@@ -6,6 +6,7 @@ use feeding_start::Start;
 use plan_holdings::holdings;
 use plan_holdings::waiting_parts;
 use plan_search::seek;
+use plan_setting::charged;
 use plan_setting::packed_setting;
 use plan_sums::load_of;
 use plan_supply::demand_of;
@@ -15,8 +16,9 @@ ghost use mathlib.Core.Path.{_≡_};
 ghost use lib.Dec.{ltb};
 ghost use lib.ListN.{length};
 ghost use Rattle.feeding.specs.Networks.{at, isIn, netOf};
+ghost use Rattle.feeding.specs.Costs.{setCost};
 ghost use Rattle.feeding_start.specs.Starting.{operableIn, Searchable};
-ghost use Rattle.plan_problem.specs.Sets.{keep, priceOf, scan};
+ghost use Rattle.plan_problem.specs.Sets.{keep, scan, setIn};
 ghost use Rattle.plan_switches.specs.Switches.{switchList};
 ghost use Rattle.plan_stops.specs.Supply.{demand, supply};
 ghost use Rattle.plan_search.specs.Searching.{bestIn};
@@ -94,14 +96,18 @@ pub fn seek_candidates<'a>(
     requires { ⌜ now base ≡ openedIn start ⌝ }
     requires { ⌜ Walked (start .net) switches (now left) (now chain) (now rating) ⌝ }
     requires { ⌜ length (now best) ≡ 2 ⌝ }
-    ensures { λ _. ⌜ bestIn (now (best .exit)) ≡ scan (keep (priceOf (at (switches .price)) (switches .count)) (fittingIn start switches (now (left .entry)) (now (chain .entry)) (now (rating .entry)))) (candidatesOf (netOf (start .net)) (isIn (start .operable))) (bestIn (now (best .entry))) ⌝ }
+    ensures { λ _. ⌜ bestIn (now (best .exit)) ≡ scan (keep (λ s. setCost (netOf (start .net)) (setIn (operableIn start) s)) (fittingIn start switches (now (left .entry)) (now (chain .entry)) (now (rating .entry)))) (candidatesOf (netOf (start .net)) (isIn (start .operable))) (bestIn (now (best .entry))) ⌝ }
     ensures { λ _. ⌜ length (now (best .exit)) ≡ 2 ⌝ }
 {
     let origin = origin_of(start, base);
     let sound = start.sound;
     let elements = start.net.elements;
     let links = start.net.links;
-    let fixed = packed_setting(switches, &sound, origin.waiting, elements, links);
+    let packed = packed_setting(switches, &sound, origin.waiting, elements, links);
+    let guard = start.net.guard;
+    let cost = start.net.cost;
+    let link = switches.link;
+    let fixed = charged(packed, &guard, &cost, links, &link, switches.count);
     let mut states = *left;
     let mut label = origin.label;
     let mut holds = origin.holds;

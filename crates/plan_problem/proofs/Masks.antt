@@ -4,7 +4,7 @@ use Prim.Native.Nat.{ℕ, zero, suc, _+_, _*_, _/_, _%_, _^_, _≤_, _<_, min}
 use mathlib.Core.Path.{_≡_, refl, sym, ap, ap₂, _∙_}
 use mathlib.Core.Bool.{Bool, true, false, not, _&&_, _||_}
 use lib.Bits.{bitAnd, and-step, and-zero-r}
-use lib.Dec.{eqb}
+use lib.Dec.{eqb, ltb}
 use lib.Pow.{pow-mono}
 use borrow.Author.Tests.{eqb-true, eqb-false, eq-eqb, ne-eqb}
 use native.Mathlib.Nat.{zero-min}
@@ -12,7 +12,7 @@ use native.Mathlib.Omega.{arith}
 use Rattle.feeding.specs.Below.{gate, anyTo}
 use Rattle.feeding.specs.Plans.{put}
 use Rattle.feeding.proofs.Below.{anyTo-ext, any-none}
-use Rattle.plan_problem.specs.Sets.{setOf, maskOf}
+use Rattle.plan_problem.specs.Sets.{setOf, maskOf, fellowsOf}
 
 pub mask-none : (f : ℕ → Bool) → maskOf f 0 ≡ 0
 unfolding maskOf
@@ -100,3 +100,16 @@ pub mask-off : (f : ℕ → Bool) (n mask more : ℕ) → mask ≡ maskOf f n �
 mask-off f n mask more e t q =
     let s : n + 1 ≡ suc n = omega arith in
     omega (arith, ap (maskOf f) s, mask-more f n, ap (λ b. gate b 1) t)
+
+-- ---- a mask reads its test below n alone
+
+pub mask-ext : (f f′ : ℕ → Bool) (n : ℕ) → ((i : ℕ) → i < n → f i ≡ f′ i) → maskOf f n ≡ maskOf f′ n
+unfolding maskOf
+mask-ext f f′ zero h = refl
+mask-ext f f′ (suc n) h = omega (arith, mask-ext f f′ n (λ i k. h i (omega arith)), ap (λ b. gate b 1) (h n (omega arith)))
+
+pub fellows-ext : (guard guard′ : ℕ → ℕ) (K i : ℕ) → ((j : ℕ) → j ≤ i → guard j ≡ guard′ j) → fellowsOf guard K i ≡ fellowsOf guard′ K i
+unfolding fellowsOf
+fellows-ext guard guard′ K i h =
+    ap₂ (λ (g m : ℕ). gate (ltb g K) m) (h i (omega arith))
+    (mask-ext _ _ i (λ j k. ap₂ eqb (h j (omega arith)) (h i (omega arith))))

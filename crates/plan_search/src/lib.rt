@@ -67,9 +67,10 @@ fn added_by<'a>(fix: &'a [u32; 192], i: usize, set: usize) -> u64
     requires { ⌜ i < 16 ⌝ }
     ensures { λ r. ⌜ r ≡ addsBy (λ j. at (now (fix .entry)) (64 + j)) (λ j. at (now (fix .entry)) (160 + j)) (λ j. at (now (fix .entry)) (176 + j)) i set ⌝ }
 {
-    let price = fix[64 + i] as u64;
-    let charge = fix[160 + i] as u64;
-    let fellows = fix[176 + i] as usize;
+    let fixed: &[u32] = fix;
+    let price = fixed[64 + i] as u64;
+    let charge = fixed[160 + i] as u64;
+    let fellows = fixed[176 + i] as usize;
     let chosen = set & fellows;
     if chosen == 0 {
         return price + charge;

@@ -14,7 +14,7 @@ use Rattle.plan_switches.proofs.Columns.{turned-open, turned-closed}
 use Rattle.plan_setting.specs.Setting.{settingIn}
 use Rattle.plan_supply.proofs.Joining.{light-next, light-same, light-sum, light-join}
 use Rattle.plan_search.proofs.Placing.{placed-open, placed-closed, placed-next, lent-here}
-use Rattle.plan_search.proofs.Cases.{set-small, cost-small, seeks-operated, seeks-left, few-leaves, dear-leaves, failed-leaves, taken-leaves, both-leave, open-leaves, closed-leaves, root-a-in, root-b-in, lower-in, higher-in, join-seeks, loop-leaves, clash-leaves, heavy-leaves, join-undone}
+use Rattle.plan_search.proofs.Cases.{set-small, added-most, cost-small, seeks-operated, seeks-left, few-leaves, dear-leaves, failed-leaves, taken-leaves, both-leave, open-leaves, closed-leaves, root-a-in, root-b-in, lower-in, higher-in, join-seeks, loop-leaves, clash-leaves, heavy-leaves, join-undone}
 use borrow.Fn.Kinds.{In}
 use borrow.Fn.PlainCycle.{Measures, is, falls, and}
 use Rattle.plan_search.proofs.decide.Reads as decide
@@ -31,6 +31,7 @@ use Rattle.plan_holdings.proofs.held_together.Reads as held-together-reads
 use Rattle.plan_holdings.proofs.served_by.Reads as served-by-reads
 use Rattle.feeding_parts.proofs.root.Reads as root-reads
 use Rattle.plan_search.proofs.higher.Reads as higher-reads
+use Rattle.plan_search.proofs.added_by.Reads as added-by-reads
 use Rattle.plan_search.proofs.loads_fit.Reads as loads-fit-reads
 use Rattle.plan_search.proofs.lower.Reads as lower-reads
 use Rattle.plan_supply.proofs.carried_on.Reads as carried-on-reads
@@ -75,7 +76,7 @@ abbrev join-claims : ℕ → join-lts.Claims
 join-claims t = (root-reads.Asked, root-reads.Learnt, clashing-reads.Asked, clashing-reads.Learnt, overburdened-reads.Asked, overburdened-reads.Learnt, lower-reads.Asked, lower-reads.Learnt, higher-reads.Asked, higher-reads.Learnt, served-by-reads.Asked, served-by-reads.Learnt, held-together-reads.Asked, held-together-reads.Learnt, carried-on-reads.Asked, carried-on-reads.Learnt, seek-below t, seek.Post)
 
 abbrev seek-claims : ℕ → seek-lts.Claims
-seek-claims t = (loads-fit-reads.Asked, loads-fit-reads.Learnt, decide-below t, decide.Post)
+seek-claims t = (loads-fit-reads.Asked, loads-fit-reads.Learnt, added-by-reads.Asked, added-by-reads.Learnt, decide-below t, decide.Post)
 
 decide-add-if1 : (t : ℕ) → decide-lts.Need-add-if1 (decide-claims t) (decide-at t) decide.Post
 decide-add-if1 t c =
@@ -562,38 +563,29 @@ seek-add-s t c =
     let pre· = c .before .before .before .before .before .before .pre in
     omega (arith, set-small (settingIn (args· .fix .now) (args· .ends .now) (args· .rate .now)) (pre· .1 .0) (args· .up .now) (args· .has .now) (args· .i) (args· .fed) (args· .set) (args· .cost) (pre· .1 .1 .0))
 
+seek-added-by-requires : (t : ℕ) → seek-lts.Need-added-by-requires (seek-claims t) (seek-at t) seek.Post
+seek-added-by-requires t c κs =
+    let pre· = c .before .before .before .before .before .before .pre in
+    omega (arith, (pre· .1 .1 .0) .reached, (pre· .1 .0) .fit)
+
 seek-add-more : (t : ℕ) → seek-lts.Need-add-more (seek-claims t) (seek-at t) seek.Post
 seek-add-more t c =
-    let pre· = c .before .before .before .before .before .before .pre in
-    omega (arith, (pre· .1 .1 .0) .reached, (pre· .1 .0) .fit)
-
-seek-mul-more : (t : ℕ) → seek-lts.Need-mul-more (seek-claims t) (seek-at t) seek.Post
-seek-mul-more t c =
-    let pre· = c .before .before .before .before .before .before .pre in
-    omega (arith, (pre· .1 .1 .0) .reached, (pre· .1 .0) .fit)
-
-seek-element-copy-out-more : (t : ℕ) → seek-lts.Need-element-copy-out-more (seek-claims t) (seek-at t) seek.Post
-seek-element-copy-out-more t c =
-    let pre· = c .before .before .before .before .before .before .pre in
-    omega (arith, (pre· .1 .1 .0) .reached, (pre· .1 .0) .fit)
-
-seek-cast-more : (t : ℕ) → seek-lts.Need-cast-more (seek-claims t) (seek-at t) seek.Post
-seek-cast-more t c =
-    let pre· = c .before .before .before .before .before .before .before .pre in
-    let args· = c .before .before .before .before .before .before .before .args in
-    omega (arith, (pre· .1 .0) .price-in (args· .i) (omega arith))
-
-seek-add-more-2 : (t : ℕ) → seek-lts.Need-add-more-2 (seek-claims t) (seek-at t) seek.Post
-seek-add-more-2 t c =
     let args· = c .before .before .before .before .before .before .before .args in
     let pre· = c .before .before .before .before .before .before .before .pre in
-    omega (arith, cost-small (settingIn (args· .fix .now) (args· .ends .now) (args· .rate .now)) (pre· .1 .0) (args· .up .now) (args· .has .now) (args· .i) (args· .fed) (args· .set) (args· .cost) (pre· .1 .1 .0), (pre· .1 .0) .price-in (args· .i) (omega arith))
+    let added-by· = c .added-by in
+    let B = settingIn (args· .fix .now) (args· .ends .now) (args· .rate .now) in
+    omega (
+      arith,
+      cost-small B (pre· .1 .0) (args· .up .now) (args· .has .now) (args· .i) (args· .fed) (args· .set) (args· .cost) (pre· .1 .1 .0),
+      added-by· .ensures,
+      added-most B (pre· .1 .0) (args· .up .now) (args· .has .now) (args· .i) (args· .fed) (args· .set) (args· .cost) (pre· .1 .1 .0) (args· .i) (args· .set) (omega arith),
+    )
 
 seek-decide-requires : (t : ℕ) → seek-lts.Need-decide-requires (seek-claims t) (seek-at t) seek.Post
 seek-decide-requires t c κs =
     let pre· = c .before .before .before .before .before .before .before .before .before .before .before .before .pre in
     let args· = c .before .before .before .before .before .before .before .before .before .before .before .before .args in
-    (omega (arith, (pre· .1 .0) .fit), ((pre· .1 .0), (seeks-operated (settingIn (args· .fix .now) (args· .ends .now) (args· .rate .now)) (pre· .1 .0) (args· .up .now) (args· .has .now) (args· .i) (args· .fed) (args· .set) (args· .cost) (pre· .1 .1 .0) _ _ (omega arith) (omega arith) (omega arith), (placed-next (settingIn (args· .fix .now) (args· .ends .now) (args· .rate .now)) (args· .on .now) (args· .i) (args· .set) (pre· .1 .1 .1 .0) (args· .on .now) _ refl (omega arith), ((pre· .1 .1 .0) .served-few, ((pre· .1 .1 .1 .1 .0), (pre· .1 .1 .1 .1 .1)))))))
+    (omega (arith, (pre· .1 .0) .fit), ((pre· .1 .0), (seeks-operated (settingIn (args· .fix .now) (args· .ends .now) (args· .rate .now)) (pre· .1 .0) (args· .up .now) (args· .has .now) (args· .i) (args· .fed) (args· .set) (args· .cost) (pre· .1 .1 .0) _ _ (omega arith) (omega arith) (omega (arith, c .before .before .before .before .before .added-by .ensures)), (placed-next (settingIn (args· .fix .now) (args· .ends .now) (args· .rate .now)) (args· .on .now) (args· .i) (args· .set) (pre· .1 .1 .1 .0) (args· .on .now) _ refl (omega arith), ((pre· .1 .1 .0) .served-few, ((pre· .1 .1 .1 .1 .0), (pre· .1 .1 .1 .1 .1)))))))
 
 seek-decide-requires-2 : (t : ℕ) → seek-lts.Need-decide-requires-2 (seek-claims t) (seek-at t) seek.Post
 seek-decide-requires-2 t c κs =
@@ -697,11 +689,8 @@ pub +decide+join+seek-spec : {M : Type 1} → statement M
     (seek-returns-4 t)
     (seek-mul-t t)
     (seek-add-s t)
+    (seek-added-by-requires t)
     (seek-add-more t)
-    (seek-mul-more t)
-    (seek-element-copy-out-more t)
-    (seek-cast-more t)
-    (seek-add-more-2 t)
     (seek-decide-requires t)
     (seek-decide-requires-2 t)
     (seek-returns-5 t)
