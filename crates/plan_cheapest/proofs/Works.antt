@@ -36,13 +36,13 @@ use Rattle.feeding_start.proofs.Starts.{operable-of, sound-of}
 use Rattle.plan_problem.specs.declared.Best.{Best}
 use Rattle.plan_stops.specs.Candidates.{radial?, passes?, candidate?, openedBy}
 use Rattle.plan_problem.specs.Choosing.{works?}
-use Rattle.plan_problem.specs.Sets.{setsFrom, setIn, none, keep, scan, priceOf, cheapestBy}
+use Rattle.plan_problem.specs.Sets.{setsFrom, setIn, none, keep, scan, cheapestBy}
 use Rattle.plan_stops.proofs.Radial.{radial-out}
 use Rattle.plan_problem.proofs.Scans.{scan-tested, scan-ext}
 use Rattle.plan_problem.proofs.Cheapest.{cheapest-below}
 use Rattle.plan_switches.specs.declared.Switches.{Switches}
 use Rattle.plan_switches.specs.Switches.{SwitchReach, switchList, withSet}
-use Rattle.plan_switches.proofs.States.{length-states, operable-in, count-is, link-at, link-reach, states-flipped, price-set}
+use Rattle.plan_switches.proofs.States.{length-states, operable-in, count-is, link-at, link-reach, states-flipped}
 use Rattle.plan_stops.specs.Supply.{supplied?}
 use Rattle.plan_stops.proofs.Works.{supplied-works}
 use Rattle.plan_candidates.specs.Candidates.{asksOf, candidatesOf, suppliedCandidate?, openedIn, fittingIn, Walked}
@@ -154,10 +154,6 @@ module _ (st : Start) (ok : Searchable st) {sw : Switches} {base : List ℕ} {la
       → closedIn (withSet (at (sw .link)) (at (sw .closed)) (sw .count) s base) l ≡ flip (netOf n .startClosed) (setIn (operableIn st) s) l
   unfolding switchList
   states-at s l h = rw (g .switches-are) (states-flipped n w op (ok .switches) few base base-long base-at s l h)
-
-  price-at : (s : ℕ) → priceOf (at (sw .price)) (sw .count) s ≡ setCost (netOf n) (setIn (operableIn st) s)
-  unfolding switchList
-  price-at s = rw (g .switches-are) (price-set n w op (ok .switches) few s)
 
   sound-at : (e : ℕ) → e < n .elements → isIn sound e ≡ sound? (netOf n .grid) e
   sound-at = sources-at st ok
@@ -296,14 +292,14 @@ module _ (st : Start) (ok : Searchable st) {sw : Switches} {base : List ℕ} {la
 
   -- the theorem: the candidates tried in turn, from none on, give the first cheapest of all sets that work
   pub cheapest-found : {best : Best} (cost set : ℕ)
-      → best ≡ scan (keep (priceOf (at (sw .price)) (sw .count)) (fittingIn st sw (lumped .base) chain rating)) (candidatesOf (netOf n) op) (record { cost = cost; set = set })
+      → best ≡ scan (keep (λ s. setCost (netOf n) (setIn (operableIn st) s)) (fittingIn st sw (lumped .base) chain rating)) (candidatesOf (netOf n) op) (record { cost = cost; set = set })
       → cost ≡ 18446744073709551615 → set ≡ 0 → best ≡ cheapestBy (operableIn st) (setCost (netOf n)) (works? (netOf n))
   unfolding candidatesOf cheapestBy none
   cheapest-found cost set e none-cost none-set =
       e
-      ∙ ap₂ (λ (c s : ℕ). scan (keep (priceOf (at (sw .price)) (sw .count)) fitting) (candidatesOf (netOf n) op) (record { cost = c; set = s })) none-cost none-set
-      ∙ scan-tested (priceOf (at (sw .price)) (sw .count)) fitting (suppliedCandidate? (netOf n) op) (setsFrom (length (operableIn st)) 0) none
-      ∙ scan-ext (priceOf (at (sw .price)) (sw .count)) _ _ _ price-at fits-works (setsFrom (length (operableIn st)) 0) none
+      ∙ ap₂ (λ (c s : ℕ). scan (keep (λ s′. setCost (netOf n) (setIn (operableIn st) s′)) fitting) (candidatesOf (netOf n) op) (record { cost = c; set = s })) none-cost none-set
+      ∙ scan-tested (λ s. setCost (netOf n) (setIn (operableIn st) s)) fitting (suppliedCandidate? (netOf n) op) (setsFrom (length (operableIn st)) 0) none
+      ∙ scan-ext (λ s. setCost (netOf n) (setIn (operableIn st) s)) _ _ _ (λ s. refl) fits-works (setsFrom (length (operableIn st)) 0) none
 
   -- its number is small
   pub found-small : {best : Best} → best ≡ cheapestBy (operableIn st) (setCost (netOf n)) (works? (netOf n)) → best .set < 65536
