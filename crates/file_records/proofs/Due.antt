@@ -18,48 +18,13 @@ use Rattle.file_stages.specs.declared.Stage.the-variants.{Head, Elements, Links
 use Rattle.file_stages.specs.declared.Next.{Next}
 use Rattle.file_stages.specs.declared.Next.the-variants.{Go, Refused as Next·Refused}
 use Rattle.file_records.specs.declared.Found.the-variants.{Record, Refused}
-use Rattle.network.specs.Refusals.{Check, pick, firstBroken}
+use Rattle.network.specs.Refusals.{pick, firstBroken}
+pub use Rattle.network.proofs.FirstBroken.{elseFirst, first-append, all-kept, first-append-kept}
 use Rattle.file_stages.specs.Stages.{goesTo, nextStage, pick as Next·pick}
 use Rattle.network.specs.Accepted.{suits}
 use Rattle.file_fields.specs.declared.Seen.{Seen}
 use Rattle.file_fields.specs.Fields.{word, lengthOf, either, headRules, flagsRules, linkRules, planHeadRules, stepRules, fieldRules}
 use Rattle.file_records.specs.Records.{lengthField, kindField, isRefused, named, foundBy, frameRules, frameRulesBy, recordRules, recordRulesBy, recordAt, dueAt, dueBy}
-
--- The first broken of two lists of rules.
-
-abbrev pub elseFirst : Verdict → Verdict → Verdict
-elseFirst Kept v = v
-elseFirst (Broken r) v = Broken r
-
-pub first-append : (a b : List Check) → firstBroken (a ++ b) ≡ elseFirst (firstBroken a) (firstBroken b)
-first-append [] b = refl
-first-append (c ∷ cs) b = rw (first-append cs b) (under (c .broken))
-  where
-    under : (t : Bool) →
-        pick t (Broken (c .rule)) (elseFirst (firstBroken cs) (firstBroken b)) ≡
-        elseFirst (pick t (Broken (c .rule)) (firstBroken cs)) (firstBroken b)
-    under true = refl
-    under false = refl
-
--- Every test of a list is false.
-abbrev pub AllKept : List Check → Type 0
-AllKept [] = Unit
-AllKept (c ∷ cs) = (c .broken ≡ false) × AllKept cs
-
-pub all-kept : (cs : List Check) → firstBroken cs ≡ Kept → AllKept cs
-all-kept [] h = tt
-all-kept (c ∷ cs) h = go (c .broken) refl (all-kept cs)
-  where
-    go : (t : Bool) → c .broken ≡ t → (firstBroken cs ≡ Kept → AllKept cs) → AllKept (c ∷ cs)
-    go true e rest = let z : _≡_ {A = ℕ} 0 1 = cc (rw e at h) in absurd (omega arith)
-    go false e rest = (e, rest (rw e at h))
-
-or-else-kept : (u v : Verdict) → elseFirst u v ≡ Kept → (u ≡ Kept) × (v ≡ Kept)
-or-else-kept Kept v h = (refl, h)
-or-else-kept (Broken r) v h = let z : _≡_ {A = ℕ} 0 1 = cc in absurd (omega arith)
-
-pub first-append-kept : (a b : List Check) → firstBroken (a ++ b) ≡ Kept → (firstBroken a ≡ Kept) × (firstBroken b ≡ Kept)
-first-append-kept a b h = or-else-kept (firstBroken a) (firstBroken b) (sym (first-append a b) ∙ h)
 
 pub either-false : (a b : Bool) → either a b ≡ false → (a ≡ false) × (b ≡ false)
 either-false true b h = let z : _≡_ {A = ℕ} 0 1 = cc in absurd (omega arith)
