@@ -21,13 +21,13 @@ pub record ElementIs (n : Network) (i load capacity flags : ℕ) : Type 0 where
   pub flags-is : getD (n .flags) i 0 ≡ flags
 
 -- "Kind 3, link, length 12: two different elements, form .., cost"; document 02: "Kind 8 is a switch laid out as kind 3 .. with one more field, the number of
--- its guard"
+-- its guard"; a number behind the last that a network has room for has none
 pub record LinkIs (n : Network) (l from to form cost guard : ℕ) : Type 0 where
   pub from-is : getD (n .from) l 0 ≡ from
   pub to-is : getD (n .to) l 0 ≡ to
   pub form-is : getD (n .form) l 0 ≡ form
   pub cost-is : getD (n .cost) l 0 ≡ cost
-  pub guard-is : getD (n .guard) l 0 ≡ guard
+  pub guard-is : getD (n .guard) l noGuard ≡ guard
 
 -- the guard that the record of a link states: none for kind 3
 pub data StatesGuard (s : List ℕ) (at : ℕ) : ℕ → Type 0 where
