@@ -50,7 +50,7 @@ module _ (s : List ℕ) where
 -- ---- the links read so far
 
 -- a link that was read stands where the paper looks for it, and its form is kept
-record LinkPlaced (s : List ℕ) (E at : ℕ) (n : Network) (g : ℕ) : Type 0 where
+pub record LinkPlaced (s : List ℕ) (E at : ℕ) (n : Network) (g : ℕ) : Type 0 where
   pub place : ℕ
   pub stands : Lead s (1 + E + g) 0 place
   pub earlier : place < at
@@ -72,15 +72,15 @@ module _ {s : List ℕ} {E left at : ℕ} {n : Network} where
         sees = λ g x. go g x (ltb g (n .links)) refl;
         stands = λ g x.
             let l = p .placed g (x .below) in
-            record { place = l .place; stands = l .stands; earlier = l .earlier; switch = λ z. x .switch (l .form-is ∙ z) };
+            record { place = l .place; stands = l .stands; earlier = omega (arith, l .earlier); switch = λ z. x .switch (omega (arith, l .form-is, z)) };
       }
     where
       go : (g : ℕ) → EarlierSwitch s E at g → (t : Bool) → ltb g (n .links) ≡ t → SwitchSeen (networkSeen n) g
       go g x true t =
           let lt = ltb-true g (n .links) t in
           let l = p .placed g lt in
-          let same : l .place ≡ x .place = lead-once s (l .stands) (x .stands) in
-          record { below = lt; switch = λ z. x .switch (ap (λ (a : ℕ). word s (a + 8)) (sym same) ∙ sym (l .form-is) ∙ z) }
+          let same : word s (l .place + 8) ≡ word s (x .place + 8) = ap (λ (a : ℕ). word s (a + 8)) (lead-once s (l .stands) (x .stands)) in
+          record { below = lt; switch = λ z. x .switch (omega (arith, same, l .form-is, z)) }
       go g x false t =
           let ge = ltb-false g (n .links) t in
           absurd (omega (arith, x .earlier, lead-later s (omega (arith, ge)) (p .lead) (x .stands)))
@@ -119,11 +119,11 @@ module _ {s : List ℕ} {E left at : ℕ} {n : Network} where
 
   -- no link was read yet
   pub none-placed : Lead s (1 + E) 0 at → n .elements ≡ E → n .links ≡ 0 → left ≤ length (n .form) → LinksPlaced s E left at n
-  none-placed lead elements none room =
-      let all : 1 + E ≡ 1 + E + n .links = omega (arith, none) in
+  none-placed lead elements unlinked room =
+      let all : 1 + E ≡ 1 + E + n .links = omega (arith, unlinked) in
       record {
         elements = elements;
         lead = subst (λ (k : ℕ). Lead s k 0 at) all lead;
-        room = omega (arith, none);
-        placed = λ g lt. absurd (omega (arith, none, lt));
+        room = omega (arith, unlinked);
+        placed = λ g lt. absurd (omega (arith, unlinked, lt));
       }

@@ -13,7 +13,7 @@ use Rattle.file_network.specs.NetworkFiles.{guardOf}
 use Rattle.file_refusals.specs.Breaking.{IsLink}
 use Rattle.file_refusals.specs.Stated.{StatesGuard, unguarded, guarded}
 
-module _ {s : List ℕ} {at : ℕ} where
+module _ (s : List ℕ) (at : ℕ) where
   -- it is of one of the two kinds
   pub link-kind : IsLink s at → linkKind (kindField s at) ≡ true
   link-kind (inl k) = rw k

@@ -431,34 +431,34 @@ module _ (s : List ℕ) (E K at : ℕ) (stage : Stage) where
     -- rules 7 to 9
     plain-part : IsLink s at → Decides P (position BadEnds) (position BadGuard) (plainLinkRules s at (kindField s at) (seen .elements))
     unfolding plainLinkRules position
-    plain-part link =
+    plain-part one =
         decides-one P BadEnds (either (leb (seen .elements) (word s (at + 4))) (either (leb (seen .elements) (word s (at + 6))) (eqb (word s (at + 4)) (word s (at + 6)))))
-        (λ kept h. (link, subst BadEndsIn (elements-told kept) (ends-out (seen .elements) h)))
+        (λ kept h. (one, subst BadEndsIn (elements-told kept) (ends-out (seen .elements) h)))
         (λ kept h p. ends-in (seen .elements) h (subst BadEndsIn (sym (elements-told kept)) (p .1)))
         (decides-one P UnknownForm (unknownForm (kindField s at) (word s (at + 8)))
         (λ _ h. form-out h)
         (λ _ h p. form-in h p)
         (decides-one P UnsuitedCost (not (suits (word s (at + 8)) (word s (at + 10))))
-        (λ _ h. (link, suits-out (word s (at + 8)) (word s (at + 10)) (not-true (suits (word s (at + 8)) (word s (at + 10))) h)))
+        (λ _ h. (one, suits-out (word s (at + 8)) (word s (at + 10)) (not-true (suits (word s (at + 8)) (word s (at + 10))) h)))
         (λ _ h p. p .1 (suits-in (word s (at + 8)) (word s (at + 10)) (not-false (suits (word s (at + 8)) (word s (at + 10))) h)))
         (decides-none P (position BadGuard))))
       where
         elements-told : KeptTo P (position BadEnds) → seen .elements ≡ E
-        elements-told kept = link-told (position BadEnds) (omega arith) kept link .0
+        elements-told kept = link-told (position BadEnds) (omega arith) kept one .0
 
         form-out : unknownForm (kindField s at) (word s (at + 8)) ≡ true → P UnknownForm
         form-out h =
-            ⊎-elim (λ a. inl (link, ltb-true 2 (word s (at + 8)) a))
+            ⊎-elim (λ a. inl (one, ltb-true 2 (word s (at + 8)) a))
             (λ b.
             let c = both-true (eqb (kindField s at) 8) (eqb (word s (at + 8)) 0) b in
-            inr (eqb-true (kindField s at) 8 (c .0), eqb-true (word s (at + 8)) 0 (c .1)))
+            inr (eqb-true (kindField s at) 8 (c .0), omega (arith, eqb-true (word s (at + 8)) 0 (c .1))))
             (either-true (ltb 2 (word s (at + 8))) (eqb (kindField s at) 8 && eqb (word s (at + 8)) 0) h)
 
         form-in : unknownForm (kindField s at) (word s (at + 8)) ≡ false → ¬ P UnknownForm
         form-in h (inl p) =
             omega (arith, ltb-false 2 (word s (at + 8)) (either-false (ltb 2 (word s (at + 8))) (eqb (kindField s at) 8 && eqb (word s (at + 8)) 0) h .0), p .1)
         form-in h (inr p) =
-            truly (ap₂ _&&_ (sym (eq-eqb (kindField s at) 8 (p .0))) (sym (eq-eqb (word s (at + 8)) 0 (p .1))) ∙
+            truly (ap₂ _&&_ (sym (eq-eqb (kindField s at) 8 (p .0))) (sym (eq-eqb (word s (at + 8)) 0 (omega (arith, p .1)))) ∙
             either-false (ltb 2 (word s (at + 8))) (eqb (kindField s at) 8 && eqb (word s (at + 8)) 0) h .1)
 
     -- rule 20, of kind 8
@@ -483,9 +483,9 @@ module _ (s : List ℕ) (E K at : ℕ) (stage : Stage) where
         decides-only P (position BadEnds) (position TooManySteps) (linkKind (kindField s at)) (linkRules s at (kindField s at) seen)
         (λ t.
         decides-append P (position BadEnds) (position BadGuard) (position TooManySteps) (plainLinkRules s at (kindField s at) (seen .elements))
-        (only (eqb (kindField s at) 8) (guardRules s at seen)) (plain-part (kind-link t)) guard-part)
+        (only (eqb (kindField s at) 8) (guardRules s at seen)) (plain-part (kind-link s at t)) guard-part)
         (λ t kept.
-        let no : ¬ IsLink s at = λ p. truly (sym (link-kind p) ∙ t) in
+        let no : ¬ IsLink s at = λ p. truly (sym (link-kind s at p) ∙ t) in
         kept-more P BadGuard
         (kept-more P UnsuitedCost
         (kept-more P UnknownForm

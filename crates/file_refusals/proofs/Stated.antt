@@ -162,7 +162,7 @@ module _ (s : List ℕ) (at : ℕ) (stage : Stage) (n : Network) (file : network
             let e = holds .link l (omega (arith, links .links-are)) in
             let is : e .found .place ≡ place =
             stand-once s (word s 4) (word s 6) (links-stand l (e .found .place) (e .start) (e .found .value) (e .net) (few l lt) (e .elements) (e .found .before)) stand in
-            let g = states-guard (subst (λ (a : ℕ). StatesGuard s a guard) (sym is) x) in
+            let g = states-guard s (e .found .place) (subst (λ (a : ℕ). StatesGuard s a guard) (sym is) x) in
             subst (λ (a : ℕ). LinkIs n l (word s (a + 4)) (word s (a + 6)) (word s (a + 8)) (word s (a + 10)) guard) is
             (record {
               from-is = e .from-is;
@@ -248,7 +248,7 @@ module _ (s : List ℕ) (at : ℕ) (stage : Stage) (n : Network) (file : network
             let place = e .found .place in
             let stand = links-stand l place (e .start) (e .found .value) (e .net) few (e .elements) (e .found .before) in
             let k = goes-one-way Links _ _ (e .found .whole .framed .goes) .0 in
-            let g = stating-guard (either-way (e .found .whole .framed .kind-is) k) in
+            let g = stating-guard s place (either-way (e .found .whole .framed .kind-is) k) in
             record {
               from = _;
               to = _;
