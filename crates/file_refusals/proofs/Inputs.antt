@@ -33,7 +33,6 @@ use Rattle.file_both.specs.Inputs.{paired, planBehind, planBehindBy, bothInput,
 use Rattle.file_refusals.specs.Breaking.{Lead}
 use Rattle.file_refusals.specs.Files.{Stand, networkStages, planStages, NetworkStands, PlanStands, PlanBreaks, FirstBroken, in-file, behind, FirstBrokenBoth, in-network, in-plan, behind-plan, KeepsNetwork, KeepsBoth}
 use Rattle.file_refusals.proofs.Leads.{stand-lead, LinksPlaced, placed-sees, placed-next, none-placed}
-use Rattle.file_refusals.proofs.Record.{Told}
 use Rattle.file_refusals.proofs.Files.{stand-once, break-once, stand-unbroken, Ran, ran-then, one-ran, many-ran}
 
 -- ---- the files
@@ -51,16 +50,13 @@ module _ (s : List ℕ) where
   -- links behind all elements: the network that is seen has E elements and the links that stand before
   pub links-run-ran : (l at : ℕ) (n : Network) → LinksPlaced s (word s 4) l at n
       → Ran s (word s 4) (word s 6) (replicate l Links) at (records s networkSeen (withLink s) l at Links n)
+  unfolding networkSeen
   links-run-ran =
-      many-ran s (word s 4) (word s 6) networkSeen (withLink s) Links (LinksPlaced s (word s 4)) refl (λ left at n q. told left at n q)
+      many-ran s (word s 4) (word s 6) networkSeen (withLink s) Links (LinksPlaced s (word s 4)) refl (λ left at n q. (q .elements, placed-sees q))
       (λ left at n kind long after d q.
       let framed = due-kept s (networkSeen n) at Links d .framed in
       subst (λ (k : ℕ). LinksPlaced s (word s 4) left (at + k) (withLink s at n)) (sym (framed .long-is))
       (placed-next (omega (arith, framed .least, framed .long-is)) q))
-    where
-      told : (left at : ℕ) (n : Network) → LinksPlaced s (word s 4) left at n → Told s (word s 4) (word s 6) at Links (networkSeen n)
-      unfolding networkSeen
-      told left at n q = (q .elements, placed-sees q)
 
   -- no link stands before the first
   pub elements-placed : (l at : ℕ) (n : Network) → Stand s (word s 4) (word s 6) (Head ∷ replicate (word s 4) Elements) 0 at

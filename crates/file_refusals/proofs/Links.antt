@@ -10,6 +10,7 @@ use borrow.Author.Tests.{eqb-true}
 use Rattle.file_fields.specs.Fields.{either, linkKind}
 use Rattle.file_records.specs.Records.{kindField}
 use Rattle.file_network.specs.NetworkFiles.{guardOf}
+use Rattle.file_network.proofs.Links.{guard-none, guard-stated}
 use Rattle.file_refusals.specs.Breaking.{IsLink}
 use Rattle.file_refusals.specs.Stated.{StatesGuard, unguarded, guarded}
 
@@ -28,11 +29,9 @@ module _ (s : List ℕ) (at : ℕ) where
 
   -- the guard that is read of it
   pub states-guard : {guard : ℕ} → StatesGuard s at guard → guardOf s at ≡ guard
-  unfolding guardOf
-  states-guard (unguarded k) = rw k
-  states-guard (guarded k) = rw k
+  states-guard (unguarded k) = guard-none s at k
+  states-guard (guarded k) = guard-stated s at k
 
   pub stating-guard : IsLink s at → StatesGuard s at (guardOf s at)
-  unfolding guardOf
-  stating-guard (inl k) = rw k (unguarded k)
-  stating-guard (inr k) = rw k (guarded k)
+  stating-guard (inl k) = rw (guard-none s at k) (unguarded k)
+  stating-guard (inr k) = rw (guard-stated s at k) (guarded k)

@@ -1,21 +1,26 @@
 -- The file of a network is read back as that network, since its elements and links, added one by one, fill the lists from the front; and the networks that files state are those that have one.
 -- Assumes nothing.
 use mathlib.Core.Path.{_≡_, refl, sym, ap, subst, _∙_}
+use mathlib.Core.Bool.{Bool, true, false}
 use mathlib.Core.List.{List, _++_, foldl}
+use mathlib.Core.Logic.{inl, inr}
 use Prim.Native.Nat.{ℕ, zero, suc, _+_, _<_, _≤_}
 use native.Mathlib.Numerals.{add-one}
 use native.Mathlib.Omega.{arith}
+use lib.Dec.{ltb}
 use lib.ListN.{length, getD, take, drop, replicate, length-drop, length-replicate, take-append-drop, List·getD-append}
 use lib.Seq.{length-take-le, getD-take, getD-drop, ext-getD}
+use borrow.Author.Tests.{ltb-true, ltb-false}
 use Rattle.network.specs.declared.Element.{Element}
 use Rattle.network.specs.declared.Link.{Link}
 use Rattle.network.specs.declared.Network.{Network}
 use Rattle.network.specs.Networks.{noGuard, emptyNetwork, elementAdded, linkAdded}
 use Rattle.network.specs.Accepted.{WellFormed}
 use Rattle.file_stages.specs.declared.Stage.the-variants.{PlanHead}
+use Rattle.file_fields.specs.Views.{networkSeen}
 use Rattle.file_network.specs.Runs.{reached}
 use Rattle.file_network.specs.Inputs.{networkInput}
-use Rattle.file_network.proofs.Accepted.{ElementIn, LinkIn}
+use Rattle.file_network.proofs.Accepted.{ElementIn, LinkIn, GuardIn}
 use Rattle.file_writer.proofs.RoundTrip.{front-more}
 use Rattle.file_refusals.proofs.Stated.{filled}
 use Rattle.file_written.specs.NetworkBytes.{networkBytes, networkOf, elementIn, linkIn, numbered, networkFileOf, Tidy}
@@ -131,18 +136,18 @@ module _ (n : Network) (w : WellFormed n) where
 
   -- a link's guard is among the links before it
   guard-kept : (k : ℕ) → k < n .links → LinkKept (firstOf n (n .elements) k) (linkIn n k)
-  unfolding firstOf
-  guard-kept k lt =
-      record {
-        in-range = link-kept k lt;
-        guarded = λ some.
-            let g = w .guarded k lt (omega (arith, some, w .guard-in k lt)) in
-            record {
-              switch = g .switch;
-              earlier = g .earlier;
-              guards = λ e. g .guards (sym (front-kept (n .form) (replicate 96 0) k (getD (n .guard) k 0) 0 (omega (arith, w .links-fit, w .form-long)) (g .earlier)) ∙ e);
-            };
-      }
+  unfolding firstOf networkSeen
+  guard-kept k lt = record { in-range = link-kept k lt; guard = go (ltb guard noGuard) refl }
+    where
+      guard : ℕ
+      guard = getD (n .guard) k 0
+
+      go : (t : Bool) → ltb guard noGuard ≡ t → GuardIn (networkSeen (firstOf n (n .elements) k)) (linkIn n k)
+      go true t =
+          let g = w .guarded k lt (ltb-true guard noGuard t) in
+          let there = front-kept (n .form) (replicate 96 0) k guard 0 (omega (arith, lt, w .links-fit, w .form-long)) (g .earlier) in
+          inr (record { switch = g .switch; earlier = g .earlier; guards = λ e. g .guards (sym there ∙ e) })
+      go false t = inl (omega (arith, ltb-false guard noGuard t, w .guard-in k lt))
 
   links-kept : (k count : ℕ) → k + count ≡ n .links → LinksKept (firstOf n (n .elements) k) (numbered (linkIn n) k count)
   unfolding numbered

@@ -3,7 +3,8 @@
 use mathlib.Core.Path.{_≡_, refl, sym, ap, subst, _∙_}
 use mathlib.Core.Bool.{Bool, true, false}
 use mathlib.Core.List.{List, [], _∷_, _++_, append-nil, flatMap, foldl}
-use Prim.Native.Nat.{ℕ, _+_, _*_, _/_, _%_, _<_, _≤_}
+use mathlib.Core.Logic.{inl, inr}
+use Prim.Native.Nat.{ℕ, _+_, _*_, _/_, _%_, _≤_}
 use native.Mathlib.Nat.{add-zero, zero-add}
 use native.Mathlib.Omega.{arith}
 use lib.Dec.{eqb}
@@ -32,7 +33,7 @@ use Rattle.file_network.specs.Inputs.{networkInput, networkInputBy}
 use Rattle.file_network.proofs.Runs.{records-none, records-suc}
 use Rattle.file_network.proofs.Parts.{headRun}
 use Rattle.file_network.proofs.NetworkAlike.{element-same, link-same}
-use Rattle.file_network.proofs.Accepted.{ElementIn, LinkIn}
+use Rattle.file_network.proofs.Accepted.{ElementIn, LinkIn, Guarded, GuardIn}
 use Rattle.file_writer.specs.Writing.{endBytes}
 use Rattle.file_writer.proofs.Stands.{Stands, stands-between, stands-left, stands-right, stands-word, number-back}
 use Rattle.file_written.specs.NetworkBytes.{headBytes, elementBytes, plainBytes, guardedBytes, linkBytes, networkBytes, networkOf}
@@ -136,16 +137,10 @@ flags-written n e h = (
 pub element-written : (n : Network) (e : Element) → ElementIn e → Stated (always nothingSeen) Elements elementOf elementBytes n e
 element-written n e h = flags-written n e (h .flags-in)
 
--- a guarded link is a switch, and its guard one of those that were read before it
-pub record GuardKept (n : Network) (l : Link) : Type 0 where
-  pub switch : ¬ (l .form ≡ 0)
-  pub earlier : l .guard < n .links
-  pub guards : ¬ (getD (n .form) (l .guard) 0 ≡ 0)
-
 -- a link's rules ask of what was read how many elements it has, and of its guard
 pub record LinkKept (n : Network) (l : Link) : Type 0 where
   pub in-range : LinkIn (n .elements) l
-  pub guarded : ¬ (l .guard ≡ noGuard) → GuardKept n l
+  pub guard : GuardIn (networkSeen n) l
 
 plain-written : (n : Network) (l : Link) → LinkIn (n .elements) l → l .guard ≡ noGuard → IsRecord (networkSeen n) Links Links (plainBytes l) × (linkOf (plainBytes l) 0 ≡ l)
 unfolding plainBytes word nextStage lengthOf fieldRules linkRules plainLinkRules linkOf guardOf networkSeen
@@ -173,7 +168,7 @@ plain-written n l h none =
       (ap (λ (g : ℕ). record { from = l .from; to = l .to; form = l .form; cost = l .cost; guard = g }) (sym none)),
     )
 
-guarded-written : (n : Network) (l : Link) → LinkIn (n .elements) l → GuardKept n l → IsRecord (networkSeen n) Links Links (guardedBytes l) × (linkOf (guardedBytes l) 0 ≡ l)
+guarded-written : (n : Network) (l : Link) → LinkIn (n .elements) l → Guarded (networkSeen n) l → IsRecord (networkSeen n) Links Links (guardedBytes l) × (linkOf (guardedBytes l) 0 ≡ l)
 unfolding guardedBytes word nextStage lengthOf fieldRules linkRules plainLinkRules guardRules linkOf guardOf networkSeen
 guarded-written n l h g =
     let from = number-back (l .from) in
@@ -207,10 +202,14 @@ pub link-written : (n : Network) (l : Link) → LinkKept n l → Stated networkS
 unfolding linkBytes
 link-written n l h = go (eqb (l .guard) noGuard) refl
   where
+    some : ¬ (l .guard ≡ noGuard) → GuardIn (networkSeen n) l → Guarded (networkSeen n) l
+    some ne (inl none) = absurd (ne none)
+    some ne (inr g) = g
+
     go : (t : Bool) → eqb (l .guard) noGuard ≡ t
         → IsRecord (networkSeen n) Links Links (pick t (plainBytes l) (guardedBytes l)) × (linkOf (pick t (plainBytes l) (guardedBytes l)) 0 ≡ l)
     go true t = plain-written n l (h .in-range) (eqb-true (l .guard) noGuard t)
-    go false t = guarded-written n l (h .in-range) (h .guarded (eqb-false (l .guard) noGuard t))
+    go false t = guarded-written n l (h .in-range) (some (eqb-false (l .guard) noGuard t) (h .guard))
 
 -- links one after the other, each by those before it
 abbrev pub LinksKept : Network → List Link → Type 0
