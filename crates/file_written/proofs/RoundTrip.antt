@@ -175,7 +175,7 @@ guarded-written n l h g =
     let to = number-back (l .to) in
     let form = number-back (l .form) in
     let cost = number-back (l .cost) in
-    let guard = number-back (l .guard) in (
+    let guard : word (guardedBytes l) 12 ≡ l .guard = omega arith in (
       (
         8,
         due-found (guardedBytes l) (networkSeen n) 0 8 14 Links Links refl refl (omega arith) (omega arith) refl refl
@@ -189,8 +189,8 @@ guarded-written n l h g =
               lt-leb (n .elements) (l .to) (h .to-in),
               ne-eqb (l .from) (l .to) (h .differ),
               le-ltb 2 (l .form) (h .form-in),
-              ne-eqb (l .form) 0 (g .switch),
               h .suited,
+              ne-eqb (l .form) 0 (g .switch),
               lt-leb (n .links) (l .guard) (g .earlier),
               ne-eqb (getD (n .form) (l .guard) 0) 0 (g .guards),
             )),
