@@ -24,7 +24,7 @@ returns : tie.Need-returns
 returns c =
     let start = c .before .before .before in
     let eight : start .args .kind ≡ 8 = omega arith in
-    c .word-at .ensures ∙ sym (guard-stated _ _ (sym (start .pre .kind-is) ∙ eight))
+    omega (arith, c .word-at .ensures, guard-stated (start .args .s .now) (start .args .at) (sym (start .pre .kind-is) ∙ eight))
 
 returns-2 : tie.Need-returns-2
 unfolding guardOf
