@@ -26,7 +26,7 @@ use Rattle.file_network.proofs.Parts.{headRun, elementsRun, linksRun, endRun, w
 use Rattle.file_network.proofs.Sizes.{head-read, elements-read, links-read, network-size}
 use Rattle.file_plan.specs.declared.plan.Plan.{Plan}
 use Rattle.file_plan.specs.PlanFiles.{emptyPlan, withStep, planFile}
-use Rattle.file_plan.specs.Inputs.{planInput, planInputBy}
+use Rattle.file_plan.specs.Inputs.{planInputBy}
 use Rattle.file_plan.proofs.Parts.{planHeadRun, stepsRun, planEndRun, withSteps, plan-chain}
 use Rattle.file_plan.proofs.Sizes.{plan-head-read, steps-read, plan-size}
 use Rattle.file_both.specs.Inputs.{paired, planBehind, planBehindBy, bothInput, bothInputBy}

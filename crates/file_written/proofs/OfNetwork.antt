@@ -152,10 +152,11 @@ module _ (n : Network) (w : WellFormed n) where
   links-kept : (k count : ℕ) → k + count ≡ n .links → LinksKept (firstOf n (n .elements) k) (numbered (linkIn n) k count)
   unfolding numbered
   links-kept k zero e = tt
-  links-kept k (suc count) e =
-      (guard-kept k (omega arith),
-      subst (λ (m : Network). LinksKept m (numbered (linkIn n) (suc k) count)) (sym (link-more (n .elements) k (omega arith)))
-      (links-kept (suc k) count (omega arith)))
+  links-kept k (suc count) e = (
+    guard-kept k (omega arith),
+    subst (λ (m : Network). LinksKept m (numbered (linkIn n) (suc k) count)) (sym (link-more (n .elements) k (omega arith)))
+        (links-kept (suc k) count (omega arith)),
+  )
 
   -- a well-formed network with zeros behind its counts: its file is read as that network, is accepted by rules 1 to 13, and ends at its length
   pub network-written : Tidy n → networkInput (networkFileOf n) ≡ reached (length (networkFileOf n)) PlanHead n

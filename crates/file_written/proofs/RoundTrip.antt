@@ -1,6 +1,6 @@
 -- The round trip of elements and links: the bytes of each are one record that states it, the same wherever they stand, so the file is read as their network, by induction over the lists.
 -- Assumes nothing.
-use mathlib.Core.Path.{_≡_, refl, sym, ap, subst, _∙_}
+use mathlib.Core.Path.{_≡_, refl, sym, ap, _∙_}
 use mathlib.Core.Bool.{Bool, true, false}
 use mathlib.Core.List.{List, [], _∷_, _++_, append-nil, flatMap, foldl}
 use mathlib.Core.Logic.{inl, inr}
@@ -165,7 +165,7 @@ plain-written n l h none =
             )),
       ),
       rw (from, to, form, cost)
-      (ap (λ (g : ℕ). record { from = l .from; to = l .to; form = l .form; cost = l .cost; guard = g }) (sym none)),
+          (ap (λ (g : ℕ). record { from = l .from; to = l .to; form = l .form; cost = l .cost; guard = g }) (sym none)),
     )
 
 guarded-written : (n : Network) (l : Link) → LinkIn (n .elements) l → Guarded (networkSeen n) l → IsRecord (networkSeen n) Links Links (guardedBytes l) × (linkOf (guardedBytes l) 0 ≡ l)

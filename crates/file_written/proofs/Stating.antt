@@ -16,15 +16,13 @@ use Rattle.network.specs.Refusals.{pick}
 use Rattle.network.specs.Accepted.{WellFormed}
 use Rattle.file_stages.specs.declared.Stage.{Stage}
 use Rattle.file_network.specs.Runs.{reached}
-use Rattle.file_network.specs.NetworkFiles.{elementOf, networkFile}
+use Rattle.file_network.specs.NetworkFiles.{networkFile}
 use Rattle.file_network.specs.Inputs.{networkRead}
-use Rattle.file_network.proofs.Sizes.{network-input-size}
-use Rattle.file_network.proofs.Contents.{network-holds}
-use Rattle.file_network.proofs.Accepted.{LinkIn, word-bound}
+use Rattle.file_network.proofs.Accepted.{LinkIn}
 use Rattle.file_writer.specs.Writing.{number, endBytes}
 use Rattle.file_refusals.specs.Stated.{States, NetworkOf}
 use Rattle.file_refusals.proofs.Stated.{file-states}
-use Rattle.file_refusals.proofs.Reading.{stated-read, file-formed, network-read}
+use Rattle.file_refusals.proofs.Reading.{file-formed, network-read}
 use Rattle.file_written.specs.NetworkBytes.{headBytes, elementBytes, plainBytes, guardedBytes, linkBytes, networkBytes, elementIn, linkIn, numbered, networkFileOf, Tidy}
 use Rattle.file_written.proofs.Each.{Each, each-as, each-append, each-flat, each-at, each-numbered, numbered-length}
 use Rattle.file_written.proofs.OfNetwork.{link-kept, network-written}
