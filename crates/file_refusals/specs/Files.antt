@@ -20,7 +20,7 @@ networkStages E K = Head ∷ (replicate E Elements ++ (replicate K Links ++ (End
 abbrev pub planStages : ℕ → List Stage
 planStages steps = PlanHead ∷ (replicate steps Steps ++ (PlanEnd ∷ []))
 
--- records of these stages stand one behind the other, from the first offset to the second, and break none of rules 1 to 12, nor rule 20
+-- records of these stages stand one behind the other, from the first offset to the second, and break none of rules 1 to 12 and 20
 pub data Stand (s : List ℕ) (E K : ℕ) : List Stage → ℕ → ℕ → Type 0 where
   none : {at : ℕ} → Stand s E K [] at at
   next : {at end : ℕ} {stage : Stage} {rest : List Stage}
@@ -60,11 +60,11 @@ pub data FirstBrokenBoth (s : List ℕ) : Refusal → Type 0 where
   behind-plan : {at end : ℕ} → NetworkStands s at → PlanStands s at end → end < length s
       → FirstBrokenBoth s (record { rule = ByteAfterEnd; place = end })
 
--- the planner's input keeps rules 1 to 13, and 20: the network file ends where s ends
+-- the planner's input keeps rules 1 to 13 and 20: the network file ends where s ends
 abbrev pub KeepsNetwork : List ℕ → Type 0
 KeepsNetwork s = NetworkStands s (length s)
 
--- the judge's input keeps rules 1 to 13, and 20
+-- the judge's input keeps rules 1 to 13 and 20
 pub record KeepsBoth (s : List ℕ) : Type 0 where
   pub middle : ℕ
   pub network : NetworkStands s middle

@@ -158,7 +158,7 @@ module _ (n : Network) (w : WellFormed n) where
         (links-kept (suc k) count (omega arith)),
   )
 
-  -- a well-formed network with zeros behind its counts: its file is read as that network, is accepted by rules 1 to 13, and ends at its length
+  -- a well-formed network with zeros behind its counts: its file is read as that network, is accepted by rules 1 to 13 and 20, and ends at its length
   pub network-written : Tidy n → networkInput (networkFileOf n) ≡ reached (length (networkFileOf n)) PlanHead n
   unfolding networkFileOf
   network-written tidy =

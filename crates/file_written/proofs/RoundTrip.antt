@@ -276,7 +276,7 @@ module _ (es : List Element) (ls : List Link) (some : 1 ≤ length es) (few : le
   pub file-read : (post : List ℕ) → networkFile (file ++ post) ≡ reached (length file) PlanHead (networkOf es ls)
   file-read post = file-stands (stands-between [] file post)
 
-  -- alone: it is accepted by rules 1 to 13, as the network that they make, and ends at its length
+  -- alone: it is accepted by rules 1 to 13 and 20, as the network that they make, and ends at its length
   pub round-trip : networkInput file ≡ reached (length file) PlanHead (networkOf es ls)
   unfolding networkInputBy
   round-trip =

@@ -1,4 +1,4 @@
--- The file of a network in the paper's words: it is bytes that keep rules 1 to 13 and state the network; and whatever a file states is such a network.
+-- The file of a network in the paper's words: it is bytes that keep rules 1 to 13 and 20 and state the network; and whatever a file states is such a network.
 -- Assumes nothing.
 use mathlib.Core.Path.{_≡_, ap}
 use mathlib.Core.Bool.{Bool, true, false}
@@ -29,7 +29,7 @@ use Rattle.file_written.proofs.OfNetwork.{link-kept, network-written}
 
 -- ---- what is written
 
--- the file of a network keeps rules 1 to 13 and states it
+-- the file of a network keeps rules 1 to 13 and 20 and states it
 pub network-file : (n : Network) → WellFormed n → Tidy n → NetworkOf (networkFileOf n) n
 unfolding networkRead
 network-file n w tidy = network-read (networkFileOf n) n .0 (ap networkRead (network-written n w tidy))

@@ -1,4 +1,4 @@
--- A narrow element rewritten as kind 7: its bytes are a record that states the same element, so input that keeps rules 1 to 13 is read as the same network and plan.
+-- A narrow element rewritten as kind 7: its bytes are a record that states the same element, so input that keeps rules 1 to 13 and 20 is read as the same network and plan.
 -- Assumes nothing.
 use mathlib.Core.Path.{_≡_, refl, sym, ap, subst, _∙_}
 use mathlib.Core.List.{List, _++_}
@@ -132,7 +132,7 @@ widened-network s t w = network-same t s (w .front) (w .narrow) (w .back) (w .wa
 pub widened-both : (s t : List ℕ) → Widened s t → KeepsBoth s → bothRead (bothInput t) ≡ bothRead (bothInput s)
 widened-both s t w = both-same t s (w .front) (w .narrow) (w .back) (w .was) (w .kind) (w .long) (w .there) (w .is)
 
--- ---- one after the other: what is read still keeps rules 1 to 13
+-- ---- one after the other: what is read still keeps rules 1 to 13 and 20
 
 widened-keeps : (s t : List ℕ) → Widened s t → KeepsNetwork s → KeepsNetwork t
 unfolding networkRead
