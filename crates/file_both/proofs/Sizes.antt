@@ -17,7 +17,7 @@ use Rattle.file_network.proofs.Parts.{then-reached}
 use Rattle.file_network.proofs.Sizes.{networkLongest, network-size}
 use Rattle.file_plan.proofs.Sizes.{planLongest, plan-size, plan-input-size}
 
--- At most 4,110 bytes.
+-- At most 4,302 bytes.
 pub record BothSize (s : List ℕ) (at : ℕ) (stage : Stage) (n : Network) (p : Plan) : Type 0 where
   pub middle : ℕ
   pub due : Stage
@@ -52,6 +52,6 @@ both-size s at stage n p h =
       at-most = omega (arith, end .1, size .at-most, length-is .at-most);
     }
 
--- an accepted network file with its plan file has at most 4,110 bytes
-pub both-most : (s : List ℕ) (at : ℕ) (stage : Stage) (n : Network) (p : Plan) → bothInput s ≡ reached at stage (n, p) → length s ≤ 4110
+-- an accepted network file with its plan file has at most 4,302 bytes
+pub both-most : (s : List ℕ) (at : ℕ) (stage : Stage) (n : Network) (p : Plan) → bothInput s ≡ reached at stage (n, p) → length s ≤ 4302
 both-most s at stage n p h = both-size s at stage n p h .at-most

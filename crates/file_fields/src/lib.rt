@@ -1,4 +1,4 @@
-// The fields of a record: the numbers in it, and rules 5 to 12 on those of each kind.
+// The fields of a record: the numbers in it, and rules 5 to 12 and 20 on those of each kind.
 use network::Network;
 use network::refusal::Rule;
 use network::refusal::Verdict;
@@ -195,7 +195,7 @@ fn step_rules(s: &[u8], at: usize, links: usize) -> Verdict
     Verdict::Kept
 }
 
-// Rules 5 to 12, those that speak of a record of this kind.
+// Rules 5 to 12 and 20, those that speak of a record of this kind.
 pub fn field_rules(s: &[u8], at: usize, kind: u16, seen: Seen) -> Verdict
     requires { ⌜ at + lengthOf kind ≤ length (now s) ⌝ }
     ensures { λ r. ⌜ r ≡ firstBroken (fieldRules (now (s .entry)) at kind seen) ⌝ }

@@ -18,7 +18,7 @@ use Rattle.network.specs.Networks.{emptyNetwork}
 use Rattle.file_network.specs.Runs.{reached, records, always}
 use Rattle.file_network.specs.NetworkFiles.{elementOf, linkOf, withElement, withLink, networkFile}
 use Rattle.file_records.proofs.Due.{nextAt}
-use Rattle.file_network.proofs.Runs.{Nth, run-same, run-keeps}
+use Rattle.file_network.proofs.Runs.{Nth, run-same, run-count, run-keeps}
 use Rattle.file_network.proofs.Sizes.{ElementsRead, LinksRead, NetworkSize, network-size}
 
 upto : (k : ℕ) (Q : ℕ → Type 0) → ((j : ℕ) → j < k → Q j) → Q k → (j : ℕ) → j < suc k → Q j
@@ -84,10 +84,13 @@ pub record LinkAt (s : List ℕ) (n : Network) (l : ℕ) : Type 0 where
   pub elements : records s (always nothingSeen) (withElement s) (word s 4) 8 Elements emptyNetwork ≡ reached start Elements net
   pub found : Nth s networkSeen (withLink s) start Links net l
   pub elements-are : found .value .elements ≡ word s 4
+  pub links-are : found .value .links ≡ l
+  pub forms-are : (g : ℕ) → g < l → getD (found .value .form) g 0 ≡ getD (n .form) g 0
   pub from-is : getD (n .from) l 0 ≡ linkOf s (found .place) .from
   pub to-is : getD (n .to) l 0 ≡ linkOf s (found .place) .to
   pub form-is : getD (n .form) l 0 ≡ linkOf s (found .place) .form
   pub cost-is : getD (n .cost) l 0 ≡ linkOf s (found .place) .cost
+  pub guard-is : getD (n .guard) l 0 ≡ linkOf s (found .place) .guard
 
 -- the lengths of a network's lists
 pub record Long (n : Network) : Type 0 where
@@ -98,6 +101,7 @@ pub record Long (n : Network) : Type 0 where
   pub to-long : length (n .to) ≡ 96
   pub form-long : length (n .form) ≡ 96
   pub cost-long : length (n .cost) ≡ 96
+  pub guard-long : length (n .guard) ≡ 96
 
 pub record ElementsHold (s : List ℕ) (n : Network) : Type 0 where
   pub long : Long n
@@ -113,6 +117,7 @@ empty-long = record {
   to-long = refl;
   form-long = refl;
   cost-long = refl;
+  guard-long = refl;
 }
 
 pub elements-hold : (s : List ℕ) (at : ℕ) (stage : Stage) (n : Network) → ElementsRead s at stage n → ElementsHold s n
@@ -129,6 +134,7 @@ elements-hold s at stage n e =
             to-long = ap length (same (λ n. n .to) (λ at n. refl));
             form-long = ap length (same (λ n. n .form) (λ at n. refl));
             cost-long = ap length (same (λ n. n .cost) (λ at n. refl));
+            guard-long = ap length (same (λ n. n .guard) (λ at n. refl));
           };
       element =
           λ i lt.
@@ -184,6 +190,7 @@ network-holds s at stage n h =
             to-long = long (λ n. n .to) (λ at. linkOf s at .to) (before .long .to-long) (λ at n. refl);
             form-long = long (λ n. n .form) (λ at. linkOf s at .form) (before .long .form-long) (λ at n. refl);
             cost-long = long (λ n. n .cost) (λ at. linkOf s at .cost) (before .long .cost-long) (λ at n. refl);
+            guard-long = long (λ n. n .guard) (λ at. linkOf s at .guard) (before .long .guard-long) (λ at n. refl);
           };
       element =
           λ i lt.
@@ -206,10 +213,25 @@ network-holds s at stage n h =
             elements-are =
                 run-same s networkSeen (withLink s) l start Links net (found .place) Links (found .value) (found .before) (λ n. n .elements)
                 (λ at n. refl) ∙ links .elements .elements-are;
+            links-are =
+                omega (
+                  arith,
+                  run-count s networkSeen (withLink s) l start Links net (found .place) Links (found .value) (found .before) (λ n. n .links)
+                      (λ at n. refl),
+                  links .elements .links-are,
+                );
+            forms-are =
+                λ g lg.
+                let r = run-nth s networkSeen (withLink s) l start Links net (found .place) Links (found .value) (found .before) refl g lg in
+                run-fills s networkSeen (withLink s) l start Links net (found .place) Links (found .value) (found .before) refl (λ n. n .form) (λ n. n .links)
+                (λ at. linkOf s at .form) 0 (links .elements .links-are) (omega (arith, before .long .form-long, links .elements .counts .links-fit))
+                (λ at n. refl) (λ at n. refl) g lg r ∙
+                sym (fills (λ n. n .form) (λ at. linkOf s at .form) (before .long .form-long) (λ at n. refl) g (omega arith) r);
             from-is = fills (λ n. n .from) (λ at. linkOf s at .from) (before .long .from-long) (λ at n. refl) l lt' found;
             to-is = fills (λ n. n .to) (λ at. linkOf s at .to) (before .long .to-long) (λ at n. refl) l lt' found;
             form-is = fills (λ n. n .form) (λ at. linkOf s at .form) (before .long .form-long) (λ at n. refl) l lt' found;
             cost-is = fills (λ n. n .cost) (λ at. linkOf s at .cost) (before .long .cost-long) (λ at n. refl) l lt' found;
+            guard-is = fills (λ n. n .guard) (λ at. linkOf s at .guard) (before .long .guard-long) (λ at n. refl) l lt' found;
           };
     }
   where

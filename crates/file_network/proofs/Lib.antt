@@ -1,5 +1,6 @@
 pub mod Runs
 pub mod Elements
+pub mod Links
 pub mod Outcomes
 pub mod Taken
 pub mod Parts

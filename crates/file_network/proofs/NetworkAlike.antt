@@ -17,10 +17,11 @@ use Rattle.file_records.proofs.Due.{Framed, Whole, nextAt, longest, goes-one-wa
 use Rattle.file_records.specs.Records.{kindField}
 use Rattle.file_records.proofs.SameBytes.{SameFrom, wide-words, same-on, take-same, append-same}
 use Rattle.file_network.specs.Runs.{Reading, reached, readOn, records, always, asIs}
-use Rattle.file_network.specs.NetworkFiles.{narrowElement, wideElement, elementOf, linkOf, withElement, withLink, endOn, endOnBy, linksOn, linksOnBy, elementsOn, elementsOnBy, networkFile, networkFileBy}
+use Rattle.file_network.specs.NetworkFiles.{narrowElement, wideElement, elementOf, guardOf, linkOf, withElement, withLink, endOn, endOnBy, linksOn, linksOnBy, elementsOn, elementsOnBy, networkFile, networkFileBy}
 use Rattle.file_network.specs.Inputs.{closed, networkInput, networkInputBy}
 use Rattle.file_network.proofs.Runs.{run-ends}
 use Rattle.file_network.proofs.Elements.{element-narrow, element-wide}
+use Rattle.file_network.proofs.Links.{guard-none, guard-stated}
 use Rattle.file_network.proofs.Parts.{headRun}
 use Rattle.file_network.proofs.Sizes.{head-read, networkLongest, network-size}
 use Rattle.file_network.proofs.Looking.{looks, lookThen, lookBehind, Looked, then-looked, look-most, run-looked, looks-one, looks-most}
@@ -136,11 +137,24 @@ module _ {s t : List ℕ} {at at′ upto kind long : ℕ} {next : Stage} (same :
           let long-is : long ≡ 14 = rw e at (f .long-of) in
           element-wide s at (sym (f .kind-is) ∙ e) ∙ wide-same (omega arith) ∙ sym (element-wide t at′ (there e))
 
+  guard-same : Framed s at Links kind long next → guardOf s at ≡ guardOf t at′
+  unfolding lengthOf
+  guard-same f = by-kind (goes-one-way Links kind next (f .goes) .0)
+    where
+      there : {k : ℕ} → kind ≡ k → kindField t at′ ≡ k
+      there e = sym (same .words 2 (omega (arith, f .least))) ∙ sym (f .kind-is) ∙ e
+
+      by-kind : (kind ≡ 3) ⊎ (kind ≡ 8) → guardOf s at ≡ guardOf t at′
+      by-kind (inl e) = guard-none s at (sym (f .kind-is) ∙ e) ∙ sym (guard-none t at′ (there e))
+      by-kind (inr e) =
+          let long-is : long ≡ 14 = rw e at (f .long-of) in
+          guard-stated s at (sym (f .kind-is) ∙ e) ∙ same .words 12 (omega arith) ∙ sym (guard-stated t at′ (there e))
+
   pub link-same : Framed s at Links kind long next → linkOf s at ≡ linkOf t at′
   unfolding linkOf
   link-same f =
       let least = f .enough in
-      rw (same .words 4 (omega arith), same .words 6 (omega arith), same .words 8 (omega arith), same .words 10 (omega arith))
+      rw (same .words 4 (omega arith), same .words 6 (omega arith), same .words 8 (omega arith), same .words 10 (omega arith), guard-same f)
 
 -- The same bytes, the same reading.
 

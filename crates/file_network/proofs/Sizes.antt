@@ -103,7 +103,7 @@ links-read s at stage n h =
       run = run;
     }
 
--- A network file is at most 12 bytes, 14 for each element and 12 for each link: 2,060 bytes.
+-- A network file is at most 12 bytes, 14 for each element and 14 for each link: 2,252 bytes.
 
 abbrev pub networkLongest : ℕ
 networkLongest = longest Head + longest Elements * 64 + longest Links * 96 + longest End
@@ -145,6 +145,6 @@ network-input-size s at stage n h =
     let size = network-size s at stage n (c .0) in
     (c .0, omega (arith, c .1, size .inside), omega (arith, c .1, size .at-most))
 
--- an accepted network file has at most 2,060 bytes
-pub network-most : (s : List ℕ) (at : ℕ) (stage : Stage) (n : Network) → networkInput s ≡ reached at stage n → length s ≤ 2060
+-- an accepted network file has at most 2,252 bytes
+pub network-most : (s : List ℕ) (at : ℕ) (stage : Stage) (n : Network) → networkInput s ≡ reached at stage n → length s ≤ 2252
 network-most s at stage n h = network-input-size s at stage n h .2

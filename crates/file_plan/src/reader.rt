@@ -113,7 +113,11 @@ fn steps_on(s: &[u8], head: usize, at: usize, stage: Stage, seen: Seen) -> PlanP
 pub fn plan_file(s: &[u8], at: usize, links: usize) -> PlanPart
     ensures { λ r. ⌜ r ≡ planPart (planFile (now (s .entry)) links at) ⌝ }
 {
-    let seen = Seen { elements: 0, links };
+    let seen = Seen {
+        elements: 0,
+        links,
+        form: [0; 96],
+    };
     let found = record_due(s, at, Stage::PlanHead, seen);
     match found {
         Found::Refused(refusal) => {

@@ -17,7 +17,7 @@ use Rattle.file_records.specs.declared.Found.the-variants.{Record, Refus
 use Rattle.network.specs.Refusals.{pick, firstBroken}
 use Rattle.file_stages.specs.Stages.{nextStage}
 use Rattle.file_fields.specs.declared.Seen.{Seen}
-use Rattle.file_fields.specs.Fields.{word, lengthOf, headRules, flagsRules, linkRules, planHeadRules, stepRules, fieldRules}
+use Rattle.file_fields.specs.Fields.{word, lengthOf, headRules, flagsRules, plainLinkRules, guardRules, linkRules, planHeadRules, stepRules, fieldRules}
 use Rattle.file_records.specs.Records.{lengthField, kindField, isRefused, foundBy, frameRules, frameRulesBy, recordRules, recordRulesBy, recordAt, dueAt, dueBy}
 use Rattle.file_records.proofs.Due.{elseFirst, first-append, Framed, longest, of-kind, goes-one-way, not-refused, length-at, frame-kept}
 use Rattle.file_records.proofs.SameBytes.{SameFrom, first-word, left-same}
@@ -69,13 +69,13 @@ unfolding looksAt
 looks-longest s at stage four =
     pick-by (λ (n : ℕ). n ≤ longest stage) (lengthKnown s at stage) (lengthField s at) 4 (λ h. known-bounds s at stage h .1) four
 
--- Rules 5 to 12 read no word outside the record.
+-- Rules 5 to 12 and 20 read no word outside the record.
 
 pub fields-alike :
     (s t : List ℕ) (at at′ kind : ℕ) (seen : Seen) →
     ((i : ℕ) → i + 2 ≤ lengthOf kind → word s (at + i) ≡ word t (at′ + i)) →
     fieldRules s at kind seen ≡ fieldRules t at′ kind seen
-unfolding fieldRules headRules flagsRules linkRules planHeadRules stepRules lengthOf
+unfolding fieldRules headRules flagsRules linkRules plainLinkRules guardRules planHeadRules stepRules lengthOf
 fields-alike s t at at′ kind seen =
     let Same : ℕ → Type 0 =
     λ k.
@@ -89,7 +89,12 @@ fields-alike s t at at′ kind seen =
     of-kind Same kind 5 (λ w. rw (w 4 (omega arith)))
     (λ e5.
     of-kind Same kind 6 (λ w. rw (w 4 (omega arith), w 6 (omega arith)))
-    (λ e6. of-kind Same kind 7 (λ w. rw (w 12 (omega arith))) (λ e7 w. rw (e1, e2, e3, e5, e6, e7)))))))
+    (λ e6.
+    of-kind Same kind 7 (λ w. rw (w 12 (omega arith)))
+    (λ e7.
+    of-kind Same kind 8
+    (λ w. rw (w 4 (omega arith), w 6 (omega arith), w 8 (omega arith), w 10 (omega arith), w 12 (omega arith)))
+    (λ e8 w. rw (e1, e2, e3, e5, e6, e7, e8))))))))
 
 -- One record, due at two places.
 

@@ -1,13 +1,13 @@
 -- What `recordAt` and `dueAt` promise of the record they find or refuse: where no rule of a list is broken, each of its tests is false, and the stage decides which kinds may come and how long they are.
 -- Assumes nothing.
 use mathlib.Core.Path.{_≡_, refl, sym, ap, subst, _∙_}
-use mathlib.Core.Bool.{Bool, true, false}
+use mathlib.Core.Bool.{Bool, true, false, not, _&&_}
 use mathlib.Core.List.{List, [], _∷_, _++_}
 use mathlib.Core.Logic.{_⊎_, inl, inr}
 use Prim.Native.Nat.{ℕ, _+_, _-_, _<_, _≤_}
 use native.Mathlib.Omega.{arith}
 use lib.Dec.{eqb, ltb, leb}
-use lib.ListN.{length}
+use lib.ListN.{length, getD}
 use borrow.Author.Tests.{ltb-false, leb-false, eqb-true, eqb-false, not-false}
 use Rattle.network.specs.declared.refusal.Refusal.{Refusal}
 use Rattle.network.specs.declared.refusal.Rule.{Rule}
@@ -18,48 +18,13 @@ use Rattle.file_stages.specs.declared.Stage.the-variants.{Head, Elements, Links
 use Rattle.file_stages.specs.declared.Next.{Next}
 use Rattle.file_stages.specs.declared.Next.the-variants.{Go, Refused as Next·Refused}
 use Rattle.file_records.specs.declared.Found.the-variants.{Record, Refused}
-use Rattle.network.specs.Refusals.{Check, pick, firstBroken}
+use Rattle.network.specs.Refusals.{pick, firstBroken}
+pub use Rattle.network.proofs.FirstBroken.{elseFirst, first-append, AllKept, all-kept, first-append-kept}
 use Rattle.file_stages.specs.Stages.{goesTo, nextStage, pick as Next·pick}
 use Rattle.network.specs.Accepted.{suits}
 use Rattle.file_fields.specs.declared.Seen.{Seen}
-use Rattle.file_fields.specs.Fields.{word, lengthOf, either, headRules, flagsRules, linkRules, planHeadRules, stepRules, fieldRules}
+use Rattle.file_fields.specs.Fields.{word, lengthOf, either, headRules, flagsRules, unknownForm, plainLinkRules, guardRules, linkRules, planHeadRules, stepRules, fieldRules}
 use Rattle.file_records.specs.Records.{lengthField, kindField, isRefused, named, foundBy, frameRules, frameRulesBy, recordRules, recordRulesBy, recordAt, dueAt, dueBy}
-
--- The first broken of two lists of rules.
-
-abbrev pub elseFirst : Verdict → Verdict → Verdict
-elseFirst Kept v = v
-elseFirst (Broken r) v = Broken r
-
-pub first-append : (a b : List Check) → firstBroken (a ++ b) ≡ elseFirst (firstBroken a) (firstBroken b)
-first-append [] b = refl
-first-append (c ∷ cs) b = rw (first-append cs b) (under (c .broken))
-  where
-    under : (t : Bool) →
-        pick t (Broken (c .rule)) (elseFirst (firstBroken cs) (firstBroken b)) ≡
-        elseFirst (pick t (Broken (c .rule)) (firstBroken cs)) (firstBroken b)
-    under true = refl
-    under false = refl
-
--- Every test of a list is false.
-abbrev pub AllKept : List Check → Type 0
-AllKept [] = Unit
-AllKept (c ∷ cs) = (c .broken ≡ false) × AllKept cs
-
-pub all-kept : (cs : List Check) → firstBroken cs ≡ Kept → AllKept cs
-all-kept [] h = tt
-all-kept (c ∷ cs) h = go (c .broken) refl (all-kept cs)
-  where
-    go : (t : Bool) → c .broken ≡ t → (firstBroken cs ≡ Kept → AllKept cs) → AllKept (c ∷ cs)
-    go true e rest = let z : _≡_ {A = ℕ} 0 1 = cc (rw e at h) in absurd (omega arith)
-    go false e rest = (e, rest (rw e at h))
-
-or-else-kept : (u v : Verdict) → elseFirst u v ≡ Kept → (u ≡ Kept) × (v ≡ Kept)
-or-else-kept Kept v h = (refl, h)
-or-else-kept (Broken r) v h = let z : _≡_ {A = ℕ} 0 1 = cc in absurd (omega arith)
-
-pub first-append-kept : (a b : List Check) → firstBroken (a ++ b) ≡ Kept → (firstBroken a ≡ Kept) × (firstBroken b ≡ Kept)
-first-append-kept a b h = or-else-kept (firstBroken a) (firstBroken b) (sym (first-append a b) ∙ h)
 
 pub either-false : (a b : Bool) → either a b ≡ false → (a ≡ false) × (b ≡ false)
 either-false true b h = let z : _≡_ {A = ℕ} 0 1 = cc in absurd (omega arith)
@@ -70,7 +35,7 @@ either-false false b h = (refl, h)
 abbrev pub KindAt : Stage → ℕ → Type 0
 KindAt Head k = k ≡ 1
 KindAt Elements k = (k ≡ 2) ⊎ (k ≡ 7)
-KindAt Links k = k ≡ 3
+KindAt Links k = (k ≡ 3) ⊎ (k ≡ 8)
 KindAt End k = k ≡ 4
 KindAt PlanHead k = k ≡ 5
 KindAt Steps k = k ≡ 6
@@ -102,7 +67,7 @@ shortest Over = 0
 abbrev pub longest : Stage → ℕ
 longest Head = 8
 longest Elements = 14
-longest Links = 12
+longest Links = 14
 longest End = 4
 longest PlanHead = 6
 longest Steps = 8
@@ -127,7 +92,7 @@ pub goes-one-way : (st : Stage) (k : ℕ) (next : Stage) → nextStage st k ≡ 
 unfolding nextStage
 goes-one-way Head k next h = leads-one k 1 Elements next h
 goes-one-way Elements k next h = leads-two k 2 7 Elements next h
-goes-one-way Links k next h = leads-one k 3 Links next h
+goes-one-way Links k next h = leads-two k 3 8 Links next h
 goes-one-way End k next h = leads-one k 4 PlanHead next h
 goes-one-way PlanHead k next h = leads-one k 5 Steps next h
 goes-one-way Steps k next h = leads-one k 6 Steps next h
@@ -151,7 +116,8 @@ unfolding lengthOf
 length-at Head k e = rw e (omega arith)
 length-at Elements k (inl e) = rw e (omega arith)
 length-at Elements k (inr e) = rw e (omega arith)
-length-at Links k e = rw e (omega arith)
+length-at Links k (inl e) = rw e (omega arith)
+length-at Links k (inr e) = rw e (omega arith)
 length-at End k e = rw e (omega arith)
 length-at PlanHead k e = rw e (omega arith)
 length-at Steps k e = rw e (omega arith)
@@ -170,7 +136,7 @@ pub record Framed (s : List ℕ) (at : ℕ) (stage : Stage) (kind long : ℕ) (n
   pub most : long ≤ longest stage
   pub next-at : next ≡ nextAt stage
 
--- What rules 1 to 12 promise: the tests of rules 5 to 12 that speak of the record's kind are false too.
+-- What rules 1 to 12 and 20 promise: the tests of rules 5 to 12 and 20 that speak of the record's kind are false too.
 pub record Whole (s : List ℕ) (seen : Seen) (at : ℕ) (stage : Stage) (kind long : ℕ) (next : Stage) : Type 0 where
   pub framed : Framed s at stage kind long next
   pub kept : firstBroken (recordRules s seen at stage) ≡ Kept
@@ -310,7 +276,7 @@ whole-found {s} {seen} {at} {stage} {kind} {long} {next} w =
     let here : foundBy s at stage Kept ≡ Record kind long next = cc (f .kind-is, f .long-is, n) in
     ap (foundBy s at stage) (w .kept) ∙ here
 
--- What rules 5 to 12 promise of a record: at each stage one of its kinds, and of each kind its own rules.
+-- What rules 5 to 12 and 20 promise of a record: at each stage one of its kinds, and of each kind its own rules.
 
 module _ {s : List ℕ} {seen : Seen} {at : ℕ} {stage : Stage} {kind long : ℕ} {next : Stage} where
   pub kind-there : Whole s seen at stage kind long next → KindAt stage kind
@@ -351,6 +317,39 @@ module _ {s : List ℕ} {seen : Seen} {at kind long : ℕ} {next : Stage} where
         state-in = ltb-false 1 (word s (at + 6)) (fields .1 .0);
       }
 
+-- what rules 7 to 9 promise of a link of either kind
+pub record LinkKept (s : List ℕ) (at elements : ℕ) : Type 0 where
+  pub from-in : word s (at + 4) < elements
+  pub to-in : word s (at + 6) < elements
+  pub differ : word s (at + 4) ≡ word s (at + 6) → ⊥
+  pub form-in : word s (at + 8) ≤ 2
+  pub suited : suits (word s (at + 8)) (word s (at + 10)) ≡ true
+
+-- what rules 8 and 20 promise of a guarded switch
+pub record GuardKept (s : List ℕ) (at : ℕ) (seen : Seen) : Type 0 where
+  pub switch : word s (at + 8) ≡ 0 → ⊥
+  pub earlier : word s (at + 12) < seen .links
+  pub guards : getD (seen .form) (word s (at + 12)) 0 ≡ 0 → ⊥
+
+link-by :
+    (s : List ℕ) (at elements kind : ℕ) →
+    either (leb elements (word s (at + 4))) (either (leb elements (word s (at + 6))) (eqb (word s (at + 4)) (word s (at + 6)))) ≡ false →
+    unknownForm kind (word s (at + 8)) ≡ false →
+    not (suits (word s (at + 8)) (word s (at + 10))) ≡ false →
+    LinkKept s at elements
+link-by s at elements kind ends form cost =
+    let a = word s (at + 4) in
+    let b = word s (at + 6) in
+    let t = either-false (leb elements a) (either (leb elements b) (eqb a b)) ends in
+    let u = either-false (leb elements b) (eqb a b) (t .1) in
+    record {
+      from-in = leb-false elements a (t .0);
+      to-in = leb-false elements b (u .0);
+      differ = eqb-false a b (u .1);
+      form-in = ltb-false 2 (word s (at + 8)) (either-false (ltb 2 (word s (at + 8))) (eqb kind 8 && eqb (word s (at + 8)) 0) form .0);
+      suited = not-false (suits (word s (at + 8)) (word s (at + 10))) cost;
+    }
+
 -- at the stages of elements and links, of each kind by itself
 module _ {s : List ℕ} {seen : Seen} {at : ℕ} {stage : Stage} {long : ℕ} {next : Stage} where
   pub element-kept : Whole s seen at stage 2 long next → word s (at + 8) ≤ 3
@@ -361,24 +360,21 @@ module _ {s : List ℕ} {seen : Seen} {at : ℕ} {stage : Stage} {long : ℕ} {n
   unfolding fieldRules flagsRules
   wide-kept w = ltb-false 3 (word s (at + 12)) (w .fields .0)
 
-  pub link-kept :
-      Whole s seen at stage 3 long next →
-      record {
-        from-in : word s (at + 4) < seen .elements;
-        to-in : word s (at + 6) < seen .elements;
-        differ : word s (at + 4) ≡ word s (at + 6) → ⊥;
-        form-in : word s (at + 8) ≤ 2;
-        suited : suits (word s (at + 8)) (word s (at + 10)) ≡ true;
-      }
-  unfolding fieldRules linkRules
-  link-kept w =
-      let t = either-false (leb (seen .elements) (word s (at + 4))) (either (leb (seen .elements) (word s (at + 6))) (eqb (word s (at + 4)) (word s (at + 6))))
-      (w .fields .0) in
-      let u = either-false (leb (seen .elements) (word s (at + 6))) (eqb (word s (at + 4)) (word s (at + 6))) (t .1) in
-      record {
-        from-in = leb-false (seen .elements) (word s (at + 4)) (t .0);
-        to-in = leb-false (seen .elements) (word s (at + 6)) (u .0);
-        differ = eqb-false (word s (at + 4)) (word s (at + 6)) (u .1);
-        form-in = ltb-false 2 (word s (at + 8)) (w .fields .1 .0);
-        suited = not-false (suits (word s (at + 8)) (word s (at + 10))) (w .fields .1 .1 .0);
-      }
+  -- rules 7 to 9, and rule 8 of kind 8 with rule 20
+  pub link-kept : Whole s seen at stage 3 long next → LinkKept s at (seen .elements)
+  unfolding fieldRules linkRules plainLinkRules
+  link-kept w = link-by s at (seen .elements) 3 (w .fields .0) (w .fields .1 .0) (w .fields .1 .1 .0)
+
+  pub guarded-link-kept : Whole s seen at stage 8 long next → LinkKept s at (seen .elements) × GuardKept s at seen
+  unfolding fieldRules linkRules plainLinkRules guardRules
+  guarded-link-kept w =
+      let form = word s (at + 8) in
+      let guard = word s (at + 12) in
+      let t = either-false (leb (seen .links) guard) (eqb (getD (seen .form) guard 0) 0) (w .fields .1 .1 .1 .0) in (
+        link-by s at (seen .elements) 8 (w .fields .0) (w .fields .1 .0) (w .fields .1 .1 .0),
+        record {
+          switch = eqb-false form 0 (either-false (ltb 2 form) (eqb form 0) (w .fields .1 .0) .1);
+          earlier = leb-false (seen .links) guard (t .0);
+          guards = eqb-false (getD (seen .form) guard 0) 0 (t .1);
+        },
+      )

@@ -1,4 +1,4 @@
--- Document 01, "Files" and refusals 1 to 12: what stands at an offset, by the kinds that are known.
+-- Document 01, "Files" and refusals 1 to 12, and document 02's refusal 20: what stands at an offset, by the kinds that are known.
 -- Assumes nothing.
 use mathlib.Core.Bool.{Bool, true, false, not}
 use mathlib.Core.List.{List, [], _∷_, _++_}
@@ -47,7 +47,7 @@ frameRulesBy known s at stage =
 abbrev pub frameRules : List ℕ → ℕ → Stage → List Check
 frameRules = frameRulesBy everyKind
 
--- Rules 1 to 12, "within each record", in document 01's order
+-- Rules 1 to 12, "within each record", in document 01's order; rule 20 is one of its fields' rules
 unfoldable pub recordRulesBy : (ℕ → Bool) → List ℕ → Seen → ℕ → Stage → List Check
 recordRulesBy known s seen at stage = frameRulesBy known s at stage ++ fieldRules s at (kindField s at) seen
 
@@ -64,7 +64,7 @@ foundBy s at stage (Broken r) = Refused (record { rule = r; place = at })
 unfoldable pub recordAt : List ℕ → ℕ → Stage → Found
 recordAt s at stage = foundBy s at stage (firstBroken (frameRules s at stage))
 
--- the record due at an offset, by what was read before it: rules 1 to 12
+-- the record due at an offset, by what was read before it: rules 1 to 12 and 20
 unfoldable pub dueBy : (ℕ → Bool) → List ℕ → Seen → ℕ → Stage → Found
 dueBy known s seen at stage = foundBy s at stage (firstBroken (recordRulesBy known s seen at stage))
 

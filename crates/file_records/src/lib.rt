@@ -1,4 +1,4 @@
-// One record: what stands at an offset, by document 01's rules 1 to 12, of which 5 to 12 are those of its fields.
+// One record: what stands at an offset, by rules 1 to 12 and 20, of which 5 to 12 and 20 are those of its fields.
 use file_fields::Seen;
 use file_fields::field_rules;
 use file_fields::word_at;
@@ -80,7 +80,7 @@ pub fn record_at(s: &[u8], at: usize, stage: Stage) -> Found
     }
 }
 
-// The record due at an offset, by what was read before it: rules 1 to 12 in their order.
+// The record due at an offset, by what was read before it: rules 1 to 12 and 20 in their order.
 pub fn due_at(s: &[u8], at: usize, stage: Stage, seen: Seen) -> Found
     ensures { λ r. ⌜ r ≡ dueAt (now (s .entry)) seen at stage ⌝ }
 {

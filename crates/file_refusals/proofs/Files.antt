@@ -88,16 +88,17 @@ module _ (s : List ℕ) (E K : ℕ) where
   one-ran seen into at stage a told =
       then-ran (seen a) at stage [] (λ long after. records s seen into 0 (at + long) after (into at a)) told (λ kind long after d. none)
 
-  -- records of one stage: Q is what is kept of an offset and of what was read before it, and tells what their rules ask
-  pub many-ran : {A : Type 0} (seen : A → Seen) (into : ℕ → A → A) (stage : Stage) (Q : ℕ → A → Type 0) → nextAt stage ≡ stage
-      → ((at : ℕ) (a : A) → Q at a → Told s E K at stage (seen a))
-      → ((at : ℕ) (a : A) (kind long : ℕ) (after : Stage) → dueAt s (seen a) at stage ≡ Record kind long after → Q at a → Q (at + long) (into at a))
-      → (n at : ℕ) (a : A) → Q at a → Ran (replicate n stage) at (records s seen into n at stage a)
+  -- records of one stage: Q is what is kept of how many are left, of an offset and of what was read before it, and tells what their rules ask
+  pub many-ran : {A : Type 0} (seen : A → Seen) (into : ℕ → A → A) (stage : Stage) (Q : (left at : ℕ) → A → Type 0) → nextAt stage ≡ stage
+      → ((left at : ℕ) (a : A) → Q left at a → Told s E K at stage (seen a))
+      → ((left at : ℕ) (a : A) (kind long : ℕ) (after : Stage) → dueAt s (seen a) at stage ≡ Record kind long after → Q (suc left) at a
+      → Q left (at + long) (into at a))
+      → (n at : ℕ) (a : A) → Q n at a → Ran (replicate n stage) at (records s seen into n at stage a)
   unfolding recordsBy
   many-ran seen into stage Q back told keeps zero at a q = none
   many-ran seen into stage Q back told keeps (suc n) at a q =
-      then-ran (seen a) at stage (replicate n stage) (λ long after. records s seen into n (at + long) after (into at a)) (told at a q)
+      then-ran (seen a) at stage (replicate n stage) (λ long after. records s seen into n (at + long) after (into at a)) (told (suc n) at a q)
       (λ kind long after d.
       subst (λ (st : Stage). Ran (replicate n stage) (at + long) (records s seen into n (at + long) st (into at a)))
       (sym (due-kept s (seen a) at stage d .framed .next-at ∙ back))
-      (many-ran seen into stage Q back told keeps n (at + long) (into at a) (keeps at a kind long after d q)))
+      (many-ran seen into stage Q back told keeps n (at + long) (into at a) (keeps n at a kind long after d q)))

@@ -1,12 +1,12 @@
--- Refusals 1 to 13 both ways: each way of reading ends in one case of the paper's, and the paper's cases exclude one another.
+-- Refusals 1 to 13 and 20 both ways: each way of reading ends in one case of the paper's, and the paper's cases exclude one another.
 -- Assumes nothing.
 use mathlib.Core.Path.{_≡_, refl, sym, ap, subst, _∙_}
 use mathlib.Core.Bool.{Bool, true, false}
 use mathlib.Core.List.{List, [], _∷_, _++_, append-assoc}
-use Prim.Native.Nat.{ℕ, _+_}
+use Prim.Native.Nat.{ℕ, suc, _+_, _≤_}
 use native.Mathlib.Omega.{arith}
 use lib.Dec.{ltb}
-use lib.ListN.{length, replicate}
+use lib.ListN.{length, replicate, length-replicate}
 use borrow.Author.Tests.{ltb-true, ltb-false}
 use Rattle.network.specs.declared.refusal.Rule.the-variants.{ByteAfterEnd}
 use Rattle.network.specs.declared.refusal.Refusal.{Refusal}
@@ -17,18 +17,22 @@ use Rattle.file_stages.specs.declared.Stage.{Stage}
 use Rattle.file_stages.specs.declared.Stage.the-variants.{Head, Elements, Links, End, PlanHead, Steps, PlanEnd}
 use Rattle.file_fields.specs.Fields.{word}
 use Rattle.file_fields.specs.Views.{nothingSeen, networkSeen, linksSeen}
+use Rattle.file_records.proofs.Due.{due-kept}
 use Rattle.file_network.specs.Runs.{Reading, refused, reached, readOn, records, always, asIs}
 use Rattle.file_network.specs.NetworkFiles.{withElement, withLink, networkFile}
 use Rattle.file_network.specs.Inputs.{closed, networkInput, networkInputBy}
+use Rattle.file_network.proofs.Runs.{run-same, run-count}
 use Rattle.file_network.proofs.Parts.{headRun, elementsRun, linksRun, endRun, withElements, withLinks, network-chain}
 use Rattle.file_network.proofs.Sizes.{head-read, elements-read, links-read, network-size}
 use Rattle.file_plan.specs.declared.plan.Plan.{Plan}
 use Rattle.file_plan.specs.PlanFiles.{emptyPlan, withStep, planFile}
-use Rattle.file_plan.specs.Inputs.{planInput, planInputBy}
+use Rattle.file_plan.specs.Inputs.{planInputBy}
 use Rattle.file_plan.proofs.Parts.{planHeadRun, stepsRun, planEndRun, withSteps, plan-chain}
 use Rattle.file_plan.proofs.Sizes.{plan-head-read, steps-read, plan-size}
 use Rattle.file_both.specs.Inputs.{paired, planBehind, planBehindBy, bothInput, bothInputBy}
-use Rattle.file_refusals.specs.Files.{networkStages, planStages, NetworkStands, PlanStands, PlanBreaks, FirstBroken, in-file, behind, FirstBrokenBoth, in-network, in-plan, behind-plan, KeepsNetwork, KeepsBoth}
+use Rattle.file_refusals.specs.Breaking.{Lead}
+use Rattle.file_refusals.specs.Files.{Stand, networkStages, planStages, NetworkStands, PlanStands, PlanBreaks, FirstBroken, in-file, behind, FirstBrokenBoth, in-network, in-plan, behind-plan, KeepsNetwork, KeepsBoth}
+use Rattle.file_refusals.proofs.Leads.{stand-lead, LinksPlaced, placed-sees, placed-next, none-placed}
 use Rattle.file_refusals.proofs.Files.{stand-once, break-once, stand-unbroken, Ran, ran-then, one-ran, many-ran}
 
 -- ---- the files
@@ -41,14 +45,32 @@ module _ (s : List ℕ) where
   pub elements-run-ran : (i at : ℕ) (n : Network)
       → Ran s (word s 4) (word s 6) (replicate i Elements) at (records s (always nothingSeen) (withElement s) i at Elements n)
   elements-run-ran i at n =
-      many-ran s (word s 4) (word s 6) (always nothingSeen) (withElement s) Elements (λ at n. Unit) refl (λ at n q. tt) (λ at n kind long after d q. tt) i at n tt
+      many-ran s (word s 4) (word s 6) (always nothingSeen) (withElement s) Elements (λ left at n. Unit) refl (λ left at n q. tt) (λ left at n kind long after d q. tt) i at n tt
 
-  -- links behind all elements: the network that is seen has E elements
-  pub links-run-ran : (l at : ℕ) (n : Network) → n .elements ≡ word s 4
+  -- links behind all elements: the network that is seen has E elements and the links that stand before
+  pub links-run-ran : (l at : ℕ) (n : Network) → LinksPlaced s (word s 4) l at n
       → Ran s (word s 4) (word s 6) (replicate l Links) at (records s networkSeen (withLink s) l at Links n)
-  unfolding networkSeen withLink
+  unfolding networkSeen
   links-run-ran =
-      many-ran s (word s 4) (word s 6) networkSeen (withLink s) Links (λ at n. n .elements ≡ word s 4) refl (λ at n q. q) (λ at n kind long after d q. q)
+      many-ran s (word s 4) (word s 6) networkSeen (withLink s) Links (LinksPlaced s (word s 4)) refl (λ left at n q. (q .elements, placed-sees q))
+      (λ left at n kind long after d q.
+      let framed = due-kept s (networkSeen n) at Links d .framed in
+      subst (λ (k : ℕ). LinksPlaced s (word s 4) left (at + k) (withLink s at n)) (sym (framed .long-is))
+      (placed-next (omega (arith, framed .least, framed .long-is)) q))
+
+  -- no link stands before the first
+  pub elements-placed : (l at : ℕ) (n : Network) → Stand s (word s 4) (word s 6) (Head ∷ replicate (word s 4) Elements) 0 at
+      → records s (always nothingSeen) (withElement s) (word s 4) 8 Elements emptyNetwork ≡ reached at Elements n → l ≤ 96
+      → LinksPlaced s (word s 4) l at n
+  unfolding withElement emptyNetwork
+  elements-placed l at n stand run few =
+      let all : suc (length (replicate (word s 4) Elements)) ≡ 1 + word s 4 = omega (arith, length-replicate (word s 4) Elements) in
+      let none : n .links ≡ 0 =
+      run-same s (always nothingSeen) (withElement s) (word s 4) 8 Elements emptyNetwork at Elements n run (λ m. m .links) (λ a m. refl) in
+      let form : length (n .form) ≡ 96 =
+      ap length (run-same s (always nothingSeen) (withElement s) (word s 4) 8 Elements emptyNetwork at Elements n run (λ m. m .form) (λ a m. refl)) in
+      let count = run-count s (always nothingSeen) (withElement s) (word s 4) 8 Elements emptyNetwork at Elements n run (λ m. m .elements) (λ a m. refl) in
+      none-placed (subst (λ (k : ℕ). Lead s k 0 at) all (stand-lead s stand)) (omega (arith, count)) none (omega (arith, form, few))
 
   pub elements-ran : Ran s (word s 4) (word s 6) (Head ∷ replicate (word s 4) Elements) 0 (withElements s)
   elements-ran = ran-then s (word s 4) (word s 6) (Head ∷ []) (replicate (word s 4) Elements) 0 (headRun s) (elementsRun s) head-ran more
@@ -67,8 +89,10 @@ module _ (s : List ℕ) where
           → Ran s (word s 4) (word s 6) (replicate (word s 6) Links) at (linksRun s at stage n)
       more at stage n e =
           let read = elements-read s at stage n e in
+          let stand = subst (Ran s (word s 4) (word s 6) (Head ∷ replicate (word s 4) Elements) 0) e elements-ran in
           subst (λ (st : Stage). Ran s (word s 4) (word s 6) (replicate (word s 6) Links) at (linksRun s at st n)) (sym (read .stage-is))
-          (links-run-ran (word s 6) at n (read .elements-are))
+          (links-run-ran (word s 6) at n
+          (elements-placed (word s 6) at n stand (rw (read .stage-is) at (read .run)) (read .counts .links-fit)))
 
   pub network-ran : Ran s (word s 4) (word s 6) (networkStages (word s 4) (word s 6)) 0 (networkFile s)
   network-ran =
@@ -90,8 +114,8 @@ module _ (s : List ℕ) where
       → Ran s (word s 4) (word s 6) (replicate i Steps) at (records s (always (linksSeen (word s 6))) (withStep s) i at Steps p)
   unfolding linksSeen
   steps-run-ran i at p =
-      many-ran s (word s 4) (word s 6) (always (linksSeen (word s 6))) (withStep s) Steps (λ at p. Unit) refl (λ at p q. refl)
-      (λ at p kind long after d q. tt) i at p tt
+      many-ran s (word s 4) (word s 6) (always (linksSeen (word s 6))) (withStep s) Steps (λ left at p. Unit) refl (λ left at p q. refl)
+      (λ left at p kind long after d q. tt) i at p tt
 
   pub plan-ran : (at : ℕ) → Ran s (word s 4) (word s 6) (planStages (word s (at + 4))) at (planFile s (word s 6) at)
   plan-ran head =

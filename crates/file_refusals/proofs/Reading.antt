@@ -1,4 +1,4 @@
--- Rules 1 to 13 and what is read, both ways, as the programs' readers answer them.
+-- Rules 1 to 13 and 20 and what is read, both ways, as the programs' readers answer them.
 -- Assumes nothing.
 use mathlib.Core.Path.{_≡_, refl, sym, ap, ap₂, subst, _∙_}
 use mathlib.Core.List.{List}

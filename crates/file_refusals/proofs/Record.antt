@@ -1,17 +1,17 @@
--- The record that is due: the reader's tests, one after the other, find the first rule that it breaks. Each test is shown to be its rule where the rules before it are kept.
+-- The record that is due: the reader's tests, one after the other, find the first rule that it breaks. Each test is shown to be its rule where the rules before it are kept, rule 20's by what is seen of the links before.
 -- Assumes nothing.
-use mathlib.Core.Path.{_≡_, refl, sym, ap, subst, _∙_}
-use mathlib.Core.Bool.{Bool, true, false, not}
+use mathlib.Core.Path.{_≡_, refl, sym, ap, ap₂, subst, _∙_}
+use mathlib.Core.Bool.{Bool, true, false, not, _&&_}
 use mathlib.Core.List.{List, [], _∷_, _++_}
 use mathlib.Core.Logic.{_↔_, _⊎_, inl, inr, ⊎-elim}
 use Prim.Native.Nat.{ℕ, _+_, _-_, _<_, _≤_}
 use native.Mathlib.Omega.{arith}
 use lib.Dec.{eqb, ltb, leb}
-use lib.ListN.{length}
-use borrow.Author.Tests.{ltb-true, ltb-false, leb-true, leb-false, eqb-true, eqb-false, not-false}
+use lib.ListN.{length, getD}
+use borrow.Author.Tests.{ltb-true, ltb-false, leb-true, leb-false, eqb-true, eqb-false, not-false, eq-eqb}
 use Rattle.network.specs.declared.refusal.Refusal.{Refusal}
 use Rattle.network.specs.declared.refusal.Rule.{Rule}
-use Rattle.network.specs.declared.refusal.Rule.the-variants.{RecordMissing, KindOutOfPlace, WrongLength, RecordCutOff, HeadOutOfRange, UnknownFlags, BadEnds, UnknownForm, UnsuitedCost, TooManySteps, UnknownLink, UnknownState, ByteAfterEnd, NotATree, TwoSources, FaultWithSource, Overloaded, TooManyOperable, BufferTooShort}
+use Rattle.network.specs.declared.refusal.Rule.the-variants.{RecordMissing, KindOutOfPlace, WrongLength, RecordCutOff, HeadOutOfRange, UnknownFlags, BadEnds, UnknownForm, UnsuitedCost, TooManySteps, UnknownLink, UnknownState, ByteAfterEnd, NotATree, TwoSources, FaultWithSource, Overloaded, TooManyOperable, BufferTooShort, BadGuard}
 use Rattle.network.specs.declared.refusal.Verdict.{Verdict}
 use Rattle.network.specs.declared.refusal.Verdict.the-variants.{Kept, Broken}
 use Rattle.file_stages.specs.declared.Stage.{Stage}
@@ -25,11 +25,13 @@ use Rattle.network.specs.Refusals.{position, Sooner, Check, check, pick, firstB
 use Rattle.network.proofs.Order.{position-once}
 use Rattle.network.specs.Accepted.{suits}
 use Rattle.file_fields.specs.declared.Seen.{Seen}
-use Rattle.file_fields.specs.Fields.{word, lengthOf, either, only, elementKind, flagsAt, headRules, flagsRules, linkRules, planHeadRules, stepRules, fieldRules}
+use Rattle.file_fields.specs.Fields.{word, lengthOf, either, only, elementKind, flagsAt, linkKind, unknownForm, badGuard, headRules, flagsRules, guardRules, plainLinkRules, linkRules, planHeadRules, stepRules, fieldRules}
 use Rattle.file_records.specs.Records.{lengthField, kindField, isRefused, named, frameRules, frameRulesBy, recordRules, recordRulesBy, dueAt}
 use Rattle.file_records.proofs.Due.{first-append, either-false, elseFirst, goes-one-way, due-kept, due-refused}
-use Rattle.file_refusals.specs.Breaking.{ComesNext, behind-head, behind-element, behind-wide-element, behind-link, behind-end, behind-plan-head, behind-step, behind-plan-end, MayCome, KindLength, network-head, element, link, end, plan-head, step, wide-element, InRange, CostSuits, BreaksRule, Keeps, BreaksFirst}
+use Rattle.file_refusals.specs.Breaking.{ComesNext, behind-head, behind-element, behind-wide-element, behind-link, behind-guarded-link, behind-end, behind-plan-head, behind-step, behind-plan-end, MayCome, KindLength, network-head, element, link, end, plan-head, step, wide-element, guarded-link, IsLink, InRange, CostSuits, BreaksRule, Keeps, BreaksFirst}
+use Rattle.file_refusals.specs.Seeing.{SwitchSeen, SeesSwitches}
 use Rattle.file_refusals.proofs.Elements.{states-kind, states-flags, kind-stating}
+use Rattle.file_refusals.proofs.Links.{link-kind, kind-link}
 
 -- ---- a list of tests decides which of the rules from one position up to another is the first that is broken
 
@@ -80,7 +82,7 @@ module _ (P : Rule → Type 0) where
   decides-only lo hi true cs of other = of refl
   decides-only lo hi false cs of other = record { judged = other refl }
 
--- ---- what the tests of rules 2, 3, 5, 7 and 9 say
+-- ---- what the tests of rules 2, 3, 5, 7, 8, 9 and 20 say
 
 -- the table that is computed is the paper's
 pub comes-next : (stage : Stage) (kind : ℕ) (next : Stage) → nextStage stage kind ≡ Go next → ComesNext stage kind next
@@ -90,7 +92,11 @@ comes-next Elements kind next h = let g = goes-one-way Elements kind next h in r
     either-way : (kind ≡ 2) ⊎ (kind ≡ 7) → ComesNext Elements kind Elements
     either-way (inl e) = rw e behind-element
     either-way (inr e) = rw e behind-wide-element
-comes-next Links kind next h = let g = goes-one-way Links kind next h in rw (g .0, g .1) behind-link
+comes-next Links kind next h = let g = goes-one-way Links kind next h in rw (g .1) (either-way (g .0))
+  where
+    either-way : (kind ≡ 3) ⊎ (kind ≡ 8) → ComesNext Links kind Links
+    either-way (inl e) = rw e behind-link
+    either-way (inr e) = rw e behind-guarded-link
 comes-next End kind next h = let g = goes-one-way End kind next h in rw (g .0, g .1) behind-end
 comes-next PlanHead kind next h = let g = goes-one-way PlanHead kind next h in rw (g .0, g .1) behind-plan-head
 comes-next Steps kind next h = let g = goes-one-way Steps kind next h in rw (g .0, g .1) behind-step
@@ -103,6 +109,7 @@ in-table behind-head = refl
 in-table behind-element = refl
 in-table behind-wide-element = refl
 in-table behind-link = refl
+in-table behind-guarded-link = refl
 in-table behind-end = refl
 in-table behind-plan-head = refl
 in-table behind-step = refl
@@ -134,6 +141,7 @@ comes-long stage kind (next, c) = go c
     go behind-element = element
     go behind-wide-element = wide-element
     go behind-link = link
+    go behind-guarded-link = guarded-link
     go behind-end = end
     go behind-plan-head = plan-head
     go behind-step = step
@@ -148,6 +156,14 @@ length-only end = refl
 length-only plan-head = refl
 length-only step = refl
 length-only wide-element = refl
+length-only guarded-link = refl
+
+truly : true ≡ false → ⊥
+truly z = let y : _≡_ {A = ℕ} 0 1 = cc in absurd (omega arith)
+
+both-true : (a b : Bool) → (a && b) ≡ true → (a ≡ true) × (b ≡ true)
+both-true true b e = (refl, e)
+both-true false b e = absurd (truly (sym e))
 
 either-true : (a b : Bool) → either a b ≡ true → (a ≡ true) ⊎ (b ≡ true)
 either-true true b e = inl refl
@@ -186,44 +202,61 @@ suits-out form cost e c = go (eqb form 0) refl e
     go true t h = eqb-false cost 0 h (c .fixed (eqb-true form 0 t))
     go false t h = let z : cost ≡ 0 = eqb-true cost 0 (not-false (eqb cost 0) h) in omega (arith, c .switch (eqb-false form 0 t))
 
+-- the test of a guard, by what is seen
+guard-good : (seen : Seen) (g : ℕ) → badGuard seen g ≡ false → SwitchSeen seen g
+guard-good seen g e =
+    let t = either-false (leb (seen .links) g) (eqb (getD (seen .form) g 0) 0) e in
+    record { below = leb-false (seen .links) g (t .0); switch = eqb-false (getD (seen .form) g 0) 0 (t .1) }
+
+guard-bad : (seen : Seen) (g : ℕ) → badGuard seen g ≡ true → ¬ SwitchSeen seen g
+guard-bad seen g e x =
+    ⊎-elim (λ a. omega (arith, x .below, leb-true (seen .links) g a)) (λ b. x .switch (eqb-true (getD (seen .form) g 0) 0 b))
+    (either-true (leb (seen .links) g) (eqb (getD (seen .form) g 0) 0) e)
+
 -- ---- what is seen of what stands before a record
 
--- what a record's rules ask is what the paper says of its network: of a link the elements, of a step the links; a rule that asks of an earlier
--- record has s and the offset to say where that one stands
+-- what a record's rules ask is what the paper says of its network: of a link the elements and the earlier switches, of a step the links
 abbrev pub Told : (s : List ℕ) (E K at : ℕ) → Stage → Seen → Type 0
 Told s E K at Head seen = Unit
 Told s E K at Elements seen = Unit
-Told s E K at Links seen = seen .elements ≡ E
+Told s E K at Links seen = (seen .elements ≡ E) × SeesSwitches s E at seen
 Told s E K at End seen = Unit
 Told s E K at PlanHead seen = Unit
 Told s E K at Steps seen = seen .links ≡ K
 Told s E K at PlanEnd seen = Unit
 Told s E K at Over seen = Unit
 
--- what is seen tells of itself
-pub own-told : (s : List ℕ) (seen : Seen) (at : ℕ) (stage : Stage) → Told s (seen .elements) (seen .links) at stage seen
-own-told s seen at Head = tt
-own-told s seen at Elements = tt
-own-told s seen at Links = refl
-own-told s seen at End = tt
-own-told s seen at PlanHead = tt
-own-told s seen at Steps = refl
-own-told s seen at PlanEnd = tt
-own-told s seen at Over = tt
+-- what is seen tells of its own counts, and of the links before where these are what it sees
+pub own-told :
+    (s : List ℕ) (seen : Seen) (at : ℕ) (stage : Stage) → (stage ≡ Links → SeesSwitches s (seen .elements) at seen) →
+    Told s (seen .elements) (seen .links) at stage seen
+own-told s seen at Head sees = tt
+own-told s seen at Elements sees = tt
+own-told s seen at Links sees = (refl, sees refl)
+own-told s seen at End sees = tt
+own-told s seen at PlanHead sees = tt
+own-told s seen at Steps sees = refl
+own-told s seen at PlanEnd sees = tt
+own-told s seen at Over sees = tt
 
 -- links and steps each have a stage of their own
-link-stage : {stage : Stage} {kind : ℕ} → MayCome stage kind → kind ≡ 3 → stage ≡ Links
+link-stage : {stage : Stage} {kind : ℕ} → MayCome stage kind → (kind ≡ 3) ⊎ (kind ≡ 8) → stage ≡ Links
 link-stage (next, c) e = go c e
   where
-    go : {stage : Stage} {kind : ℕ} {next : Stage} → ComesNext stage kind next → kind ≡ 3 → stage ≡ Links
-    go behind-head e = absurd (omega (arith, e))
-    go behind-element e = absurd (omega (arith, e))
-    go behind-wide-element e = absurd (omega (arith, e))
+    neither : {A : Type 0} {kind : ℕ} → ¬ (kind ≡ 3) → ¬ (kind ≡ 8) → (kind ≡ 3) ⊎ (kind ≡ 8) → A
+    neither p q (inl e) = absurd (p e)
+    neither p q (inr e) = absurd (q e)
+
+    go : {stage : Stage} {kind : ℕ} {next : Stage} → ComesNext stage kind next → (kind ≡ 3) ⊎ (kind ≡ 8) → stage ≡ Links
+    go behind-head e = neither (omega arith) (omega arith) e
+    go behind-element e = neither (omega arith) (omega arith) e
+    go behind-wide-element e = neither (omega arith) (omega arith) e
     go behind-link e = refl
-    go behind-end e = absurd (omega (arith, e))
-    go behind-plan-head e = absurd (omega (arith, e))
-    go behind-step e = absurd (omega (arith, e))
-    go behind-plan-end e = absurd (omega (arith, e))
+    go behind-guarded-link e = refl
+    go behind-end e = neither (omega arith) (omega arith) e
+    go behind-plan-head e = neither (omega arith) (omega arith) e
+    go behind-step e = neither (omega arith) (omega arith) e
+    go behind-plan-end e = neither (omega arith) (omega arith) e
 
 step-stage : {stage : Stage} {kind : ℕ} → MayCome stage kind → kind ≡ 6 → stage ≡ Steps
 step-stage (next, c) e = go c e
@@ -233,6 +266,7 @@ step-stage (next, c) e = go c e
     go behind-element e = absurd (omega (arith, e))
     go behind-wide-element e = absurd (omega (arith, e))
     go behind-link e = absurd (omega (arith, e))
+    go behind-guarded-link e = absurd (omega (arith, e))
     go behind-end e = absurd (omega (arith, e))
     go behind-plan-head e = absurd (omega (arith, e))
     go behind-step e = refl
@@ -272,7 +306,7 @@ module _ (s : List ℕ) (E K at : ℕ) (stage : Stage) where
           (sym (eqb-true (lengthField s at) (lengthOf (kindField s at)) (not-false (eqb (lengthField s at) (lengthOf (kindField s at))) t)))
           (comes-long stage (kindField s at) (comes (position WrongLength) (omega arith) kept))
 
-  -- rules 5 to 12, by the kind
+  -- rules 5 to 12 and 20, by the kind
   abbrev heads : List Check
   heads = only (eqb (kindField s at) 1) (headRules s at)
 
@@ -305,9 +339,6 @@ module _ (s : List ℕ) (E K at : ℕ) (stage : Stage) where
       flags : ℕ
       flags = at + flagsAt (kindField s at)
 
-      truly : true ≡ false → ⊥
-      truly z = let y : _≡_ {A = ℕ} 0 1 = cc in absurd (omega arith)
-
   plan-part : Decides P (position TooManySteps) (position UnknownLink) plans
   unfolding planHeadRules position
   plan-part =
@@ -317,7 +348,7 @@ module _ (s : List ℕ) (E K at : ℕ) (stage : Stage) where
       (λ _ h p. omega (arith, ltb-false 255 (word s (at + 4)) h, p .1)) (decides-none P (position UnknownLink)))
       (λ t kept. kept-more P TooManySteps kept (λ p. eqb-false (kindField s at) 5 t (p .0)))
 
-  -- rules 13 to 19 speak of no record
+  -- rules 13 to 19, which are behind these, speak of no record
   beyond : (r : Rule) → position ByteAfterEnd ≤ position r → ¬ P r
   unfolding position
   beyond RecordMissing h = absurd (omega arith)
@@ -329,6 +360,7 @@ module _ (s : List ℕ) (E K at : ℕ) (stage : Stage) where
   beyond BadEnds h = absurd (omega arith)
   beyond UnknownForm h = absurd (omega arith)
   beyond UnsuitedCost h = absurd (omega arith)
+  beyond BadGuard h = absurd (omega arith)
   beyond TooManySteps h = absurd (omega arith)
   beyond UnknownLink h = absurd (omega arith)
   beyond UnknownState h = absurd (omega arith)
@@ -383,42 +415,84 @@ module _ (s : List ℕ) (E K at : ℕ) (stage : Stage) where
   -- ---- the record as the reader finds it, by what it has seen
 
   module _ (seen : Seen) (told : Told s E K at stage seen) where
-    elements-told : KeptTo P (position BadEnds) → kindField s at ≡ 3 → seen .elements ≡ E
-    unfolding position
-    elements-told kept e = subst (λ (st : Stage). Told s E K at st seen) (link-stage (comes (position BadEnds) (omega arith) kept) e) told
+    link-told : (m : ℕ) → position KindOutOfPlace < m → KeptTo P m → IsLink s at → (seen .elements ≡ E) × SeesSwitches s E at seen
+    link-told m far kept e = subst (λ (st : Stage). Told s E K at st seen) (link-stage (comes m far kept) e) told
 
     links-told : KeptTo P (position UnknownLink) → kindField s at ≡ 6 → seen .links ≡ K
     unfolding position
     links-told kept e = subst (λ (st : Stage). Told s E K at st seen) (step-stage (comes (position UnknownLink) (omega arith) kept) e) told
 
     abbrev links : List Check
-    links = only (eqb (kindField s at) 3) (linkRules s at (seen .elements))
+    links = only (linkKind (kindField s at)) (linkRules s at (kindField s at) seen)
 
     abbrev steps : List Check
     steps = only (eqb (kindField s at) 6) (stepRules s at (seen .links))
 
+    -- rules 7 to 9
+    plain-part : IsLink s at → Decides P (position BadEnds) (position BadGuard) (plainLinkRules s at (kindField s at) (seen .elements))
+    unfolding plainLinkRules position
+    plain-part one =
+        decides-one P BadEnds (either (leb (seen .elements) (word s (at + 4))) (either (leb (seen .elements) (word s (at + 6))) (eqb (word s (at + 4)) (word s (at + 6)))))
+        (λ kept h. (one, subst BadEndsIn (elements-told kept) (ends-out (seen .elements) h)))
+        (λ kept h p. ends-in (seen .elements) h (subst BadEndsIn (sym (elements-told kept)) (p .1)))
+        (decides-one P UnknownForm (unknownForm (kindField s at) (word s (at + 8)))
+        (λ _ h. form-out h)
+        (λ _ h p. form-in h p)
+        (decides-one P UnsuitedCost (not (suits (word s (at + 8)) (word s (at + 10))))
+        (λ _ h. (one, suits-out (word s (at + 8)) (word s (at + 10)) (not-true (suits (word s (at + 8)) (word s (at + 10))) h)))
+        (λ _ h p. p .1 (suits-in (word s (at + 8)) (word s (at + 10)) (not-false (suits (word s (at + 8)) (word s (at + 10))) h)))
+        (decides-none P (position BadGuard))))
+      where
+        elements-told : KeptTo P (position BadEnds) → seen .elements ≡ E
+        elements-told kept = link-told (position BadEnds) (omega arith) kept one .0
+
+        form-out : unknownForm (kindField s at) (word s (at + 8)) ≡ true → P UnknownForm
+        form-out h =
+            ⊎-elim (λ a. inl (one, ltb-true 2 (word s (at + 8)) a))
+            (λ b.
+            let c = both-true (eqb (kindField s at) 8) (eqb (word s (at + 8)) 0) b in
+            inr (eqb-true (kindField s at) 8 (c .0), omega (arith, eqb-true (word s (at + 8)) 0 (c .1))))
+            (either-true (ltb 2 (word s (at + 8))) (eqb (kindField s at) 8 && eqb (word s (at + 8)) 0) h)
+
+        form-in : unknownForm (kindField s at) (word s (at + 8)) ≡ false → ¬ P UnknownForm
+        form-in h (inl p) =
+            omega (arith, ltb-false 2 (word s (at + 8)) (either-false (ltb 2 (word s (at + 8))) (eqb (kindField s at) 8 && eqb (word s (at + 8)) 0) h .0), p .1)
+        form-in h (inr p) =
+            truly (ap₂ _&&_ (sym (eq-eqb (kindField s at) 8 (p .0))) (sym (eq-eqb (word s (at + 8)) 0 (omega (arith, p .1)))) ∙
+            either-false (ltb 2 (word s (at + 8))) (eqb (kindField s at) 8 && eqb (word s (at + 8)) 0) h .1)
+
+    -- rule 20, of kind 8
+    guard-part : Decides P (position BadGuard) (position TooManySteps) (only (eqb (kindField s at) 8) (guardRules s at seen))
+    unfolding guardRules position
+    guard-part =
+        decides-only P (position BadGuard) (position TooManySteps) (eqb (kindField s at) 8) (guardRules s at seen)
+        (λ t.
+        let eight = eqb-true (kindField s at) 8 t in
+        decides-one P BadGuard (badGuard seen (word s (at + 12)))
+        (λ kept h. (eight, λ x. guard-bad seen (word s (at + 12)) h (sees kept eight .sees (word s (at + 12)) x)))
+        (λ kept h p. p .1 (sees kept eight .stands (word s (at + 12)) (guard-good seen (word s (at + 12)) h)))
+        (decides-none P (position TooManySteps)))
+        (λ t kept. kept-more P BadGuard kept (λ p. eqb-false (kindField s at) 8 t (p .0)))
+      where
+        sees : KeptTo P (position BadGuard) → kindField s at ≡ 8 → SeesSwitches s E at seen
+        sees kept e = link-told (position BadGuard) (omega arith) kept (inr e) .1
+
     link-part : Decides P (position BadEnds) (position TooManySteps) links
     unfolding linkRules position
     link-part =
-        decides-only P (position BadEnds) (position TooManySteps) (eqb (kindField s at) 3) (linkRules s at (seen .elements))
-        (λ t. decides-one P BadEnds (either (leb (seen .elements) (word s (at + 4))) (either (leb (seen .elements) (word s (at + 6))) (eqb (word s (at + 4)) (word s (at + 6)))))
-        (λ kept h.
-        let link = eqb-true (kindField s at) 3 t in
-        (link, subst BadEndsIn (elements-told kept link) (ends-out (seen .elements) h)))
-        (λ kept h p. ends-in (seen .elements) h (subst BadEndsIn (sym (elements-told kept (p .0))) (p .1)))
-        (decides-one P UnknownForm (ltb 2 (word s (at + 8)))
-        (λ _ h. (eqb-true (kindField s at) 3 t, ltb-true 2 (word s (at + 8)) h))
-        (λ _ h p. omega (arith, ltb-false 2 (word s (at + 8)) h, p .1))
-        (decides-one P UnsuitedCost (not (suits (word s (at + 8)) (word s (at + 10))))
-        (λ _ h. (eqb-true (kindField s at) 3 t, suits-out (word s (at + 8)) (word s (at + 10)) (not-true (suits (word s (at + 8)) (word s (at + 10))) h)))
-        (λ _ h p. p .1 (suits-in (word s (at + 8)) (word s (at + 10)) (not-false (suits (word s (at + 8)) (word s (at + 10))) h)))
-        (decides-none P (position TooManySteps)))))
+        decides-only P (position BadEnds) (position TooManySteps) (linkKind (kindField s at)) (linkRules s at (kindField s at) seen)
+        (λ t.
+        decides-append P (position BadEnds) (position BadGuard) (position TooManySteps) (plainLinkRules s at (kindField s at) (seen .elements))
+        (only (eqb (kindField s at) 8) (guardRules s at seen)) (plain-part (kind-link s at t)) guard-part)
         (λ t kept.
-        kept-more P UnsuitedCost
+        let no : ¬ IsLink s at = λ p. truly (sym (link-kind s at p) ∙ t) in
+        kept-more P BadGuard
+        (kept-more P UnsuitedCost
         (kept-more P UnknownForm
-        (kept-more P BadEnds kept (λ p. eqb-false (kindField s at) 3 t (p .0)))
-        (λ p. eqb-false (kindField s at) 3 t (p .0)))
-        (λ p. eqb-false (kindField s at) 3 t (p .0)))
+        (kept-more P BadEnds kept (λ p. no (p .0)))
+        (λ p. ⊎-elim (λ a. no (a .0)) (λ b. no (inr (b .0))) p))
+        (λ p. no (p .0)))
+        (λ p. no (inr (p .0))))
 
     step-part : Decides P (position UnknownLink) (position ByteAfterEnd) steps
     unfolding stepRules position

@@ -1,18 +1,18 @@
--- What the files state is what the reader keeps, and nothing else: each record's fields stand at its number, and zeros behind the last.
+-- What the files state is what the reader keeps, and nothing else: each record's fields stand at its number, and zeros behind the last, and no guards.
 -- Assumes nothing.
 use mathlib.Core.Path.{_≡_, refl, sym, ap, subst, _∙_}
 use mathlib.Core.Bool.{Bool, true, false}
 use mathlib.Core.List.{List, [], _∷_, _++_}
 use mathlib.Core.Logic.{_⊎_, inl, inr}
-use Prim.Native.Nat.{ℕ, zero, suc, _+_, _≤_}
+use Prim.Native.Nat.{ℕ, zero, suc, _+_, _<_, _≤_}
 use native.Mathlib.Omega.{arith}
 use lib.Dec.{ltb}
-use lib.ListN.{getD, set, replicate}
+use lib.ListN.{length, getD, set, replicate}
 use lib.Seq.{getD-set-other, ext-getD}
 use borrow.Author.Tests.{ltb-true, ltb-false}
 use Rattle.network.specs.declared.refusal.Refusal.{Refusal}
 use Rattle.network.specs.declared.Network.{Network}
-use Rattle.network.specs.Networks.{emptyNetwork}
+use Rattle.network.specs.Networks.{noGuard, emptyNetwork}
 use Rattle.file_stages.specs.declared.Stage.{Stage}
 use Rattle.file_stages.specs.declared.Stage.the-variants.{Head, Elements, Links}
 use Rattle.file_fields.specs.declared.Seen.{Seen}
@@ -21,24 +21,32 @@ use Rattle.file_fields.specs.Views.{nothingSeen, networkSeen}
 use Rattle.file_records.specs.Records.{dueAt}
 use Rattle.file_records.specs.declared.Found.the-variants.{Record}
 use Rattle.file_network.specs.Runs.{Reading, refused, reached, readOn, records, always}
-use Rattle.file_network.specs.NetworkFiles.{elementOf, linkOf, withElement, withLink, networkFile}
-use Rattle.file_network.proofs.Runs.{records-keep, run-same, run-count}
+use Rattle.file_network.specs.NetworkFiles.{elementOf, guardOf, linkOf, withElement, withLink, networkFile}
+use Rattle.file_network.proofs.Runs.{records-keep, run-same}
 use Rattle.file_network.proofs.Parts.{headRun, elementsRun, linksRun, endRun, withElements, withLinks, network-chain}
 use Rattle.file_network.proofs.Sizes.{head-read, LinksRead, network-size}
 use Rattle.file_network.proofs.Contents.{NetworkHolds, network-holds}
 use Rattle.file_records.proofs.Due.{goes-one-way}
 use Rattle.file_refusals.specs.Breaking.{StatesElement}
 use Rattle.file_refusals.specs.Files.{Stand}
-use Rattle.file_refusals.specs.Stated.{ElementIs, LinkIs, States}
+use Rattle.file_refusals.specs.Stated.{ElementIs, LinkIs, StatesGuard, States}
 use Rattle.file_refusals.proofs.Elements.{states-fields, stating}
+use Rattle.file_refusals.proofs.Links.{states-guard, stating-guard}
 use Rattle.file_refusals.proofs.Files.{stand-append, stand-once, Ran}
-use Rattle.file_refusals.proofs.Inputs.{head-ran, elements-run-ran, links-run-ran}
+use Rattle.file_refusals.proofs.Inputs.{head-ran, elements-run-ran, links-run-ran, elements-placed}
 
-pub zeros : (k i : ℕ) → _≡_ {A = ℕ} (getD (replicate k 0) i 0) 0
-zeros zero zero = refl
-zeros zero (suc i) = refl
-zeros (suc k) zero = refl
-zeros (suc k) (suc i) = zeros k i
+-- what fills a list stands at each number, behind its end too
+pub filled : {A : Type 0} (d : A) (k i : ℕ) → getD (replicate k d) i d ≡ d
+filled d zero zero = refl
+filled d zero (suc i) = refl
+filled d (suc k) zero = refl
+filled d (suc k) (suc i) = filled d k i
+
+-- what stands within a list does not hang on what stands behind its end
+within : {A : Type 0} (d d′ : A) (l : List A) (i : ℕ) → i < length l → getD l i d ≡ getD l i d′
+within d d′ [] i h = absurd (omega (arith, h))
+within d d′ (x ∷ xs) zero h = refl
+within d d′ (x ∷ xs) (suc i) h = within d d′ xs i (omega (arith, h))
 
 -- ---- behind the last record nothing is kept
 
@@ -95,34 +103,33 @@ module _ (s : List ℕ) (at : ℕ) (stage : Stage) (n : Network) (file : network
       (subst (Ran s (word s 4) (word s 6) (replicate i Elements) 8) e
       (elements-run-ran s i 8 emptyNetwork))
 
-  links-stand : (l place from : ℕ) (value m : Network) → records s (always nothingSeen) (withElement s) (word s 4) 8 Elements emptyNetwork ≡ reached from Elements m
+  links-stand : (l place from : ℕ) (value m : Network) → l ≤ 96 → records s (always nothingSeen) (withElement s) (word s 4) 8 Elements emptyNetwork ≡ reached from Elements m
       → records s networkSeen (withLink s) l from Links m ≡ reached place Links value
       → Stand s (word s 4) (word s 6) ((Head ∷ replicate (word s 4) Elements) ++ replicate l Links) 0 place
-  unfolding withElement emptyNetwork
-  links-stand l place from value m e f =
-      stand-append s (word s 4) (word s 6) (elements-stand (word s 4) from m e)
-      (subst (Ran s (word s 4) (word s 6) (replicate l Links) from) f
-      (links-run-ran s l from m (omega (arith, run-count s (always nothingSeen) (withElement s) (word s 4) 8 Elements emptyNetwork from Elements m e (λ n. n .elements) (λ at n. refl)))))
+  links-stand l place from value m few e f =
+      let elements = elements-stand (word s 4) from m e in
+      stand-append s (word s 4) (word s 6) elements
+      (subst (Ran s (word s 4) (word s 6) (replicate l Links) from) f (links-run-ran s l from m (elements-placed s l from m elements e few)))
 
   -- what the records leave behind the last of theirs
-  module _ {last : ℕ} (links : LinksRead s last Links n) (list : Network → List ℕ) (entry : ℕ → ℕ) (i : ℕ) where
+  module _ {last : ℕ} (links : LinksRead s last Links n) (list : Network → List ℕ) (entry : ℕ → ℕ) (d i : ℕ) where
     -- a list of the elements, which links leave as it is
     element-beyond : ((a : ℕ) (m : Network) → list (withElement s a m) ≡ set (list m) (m .elements) (entry a))
-        → ((a : ℕ) (m : Network) → list (withLink s a m) ≡ list m) → getD (list emptyNetwork) i 0 ≡ 0 → word s 4 ≤ i → getD (list n) i 0 ≡ 0
+        → ((a : ℕ) (m : Network) → list (withLink s a m) ≡ list m) → getD (list emptyNetwork) i d ≡ d → word s 4 ≤ i → getD (list n) i d ≡ d
     unfolding withElement emptyNetwork
     element-beyond sets keeps none h =
-        ap (λ (l : List ℕ). getD l i 0) (run-same s networkSeen (withLink s) (word s 6) (links .start) Links (links .before) last Links n (links .run) list keeps)
-        ∙ run-beyond s (always nothingSeen) (withElement s) list (λ m. m .elements) entry 0 sets (λ a m. refl) (word s 4) 8 Elements emptyNetwork (links .start) Elements (links .before) (links .elements .run) i (omega arith)
+        ap (λ (l : List ℕ). getD l i d) (run-same s networkSeen (withLink s) (word s 6) (links .start) Links (links .before) last Links n (links .run) list keeps)
+        ∙ run-beyond s (always nothingSeen) (withElement s) list (λ m. m .elements) entry d sets (λ a m. refl) (word s 4) 8 Elements emptyNetwork (links .start) Elements (links .before) (links .elements .run) i (omega arith)
         ∙ none
 
     -- a list of the links, which elements leave as it is
     link-beyond : ((a : ℕ) (m : Network) → list (withLink s a m) ≡ set (list m) (m .links) (entry a))
-        → ((a : ℕ) (m : Network) → list (withElement s a m) ≡ list m) → getD (list emptyNetwork) i 0 ≡ 0 → word s 6 ≤ i → getD (list n) i 0 ≡ 0
+        → ((a : ℕ) (m : Network) → list (withElement s a m) ≡ list m) → getD (list emptyNetwork) i d ≡ d → word s 6 ≤ i → getD (list n) i d ≡ d
     unfolding withLink
     link-beyond sets keeps none h =
-        run-beyond s networkSeen (withLink s) list (λ m. m .links) entry 0 sets (λ a m. refl) (word s 6) (links .start) Links (links .before) last Links n (links .run) i
+        run-beyond s networkSeen (withLink s) list (λ m. m .links) entry d sets (λ a m. refl) (word s 6) (links .start) Links (links .before) last Links n (links .run) i
         (omega (arith, links .elements .links-are))
-        ∙ ap (λ (l : List ℕ). getD l i 0) (run-same s (always nothingSeen) (withElement s) (word s 4) 8 Elements emptyNetwork (links .start) Elements (links .before) (links .elements .run) list keeps)
+        ∙ ap (λ (l : List ℕ). getD l i d) (run-same s (always nothingSeen) (withElement s) (word s 4) 8 Elements emptyNetwork (links .start) Elements (links .before) (links .elements .run) list keeps)
         ∙ none
 
   pub file-states : States s n
@@ -139,6 +146,7 @@ module _ (s : List ℕ) (at : ℕ) (stage : Stage) (n : Network) (file : network
           to-long = holds .long .to-long;
           form-long = holds .long .form-long;
           cost-long = holds .long .cost-long;
+          guard-long = holds .long .guard-long;
         };
         element = λ i place load capacity flags lt stand x.
             let e = holds .element i (omega (arith, links .elements-are)) in
@@ -146,26 +154,37 @@ module _ (s : List ℕ) (at : ℕ) (stage : Stage) (n : Network) (file : network
             let f = states-fields (subst (λ (a : ℕ). StatesElement s a load capacity flags) (sym is) x) in
             record { load-is = e .load-is ∙ f .0; capacity-is = e .capacity-is ∙ f .1; flags-is = e .flags-is ∙ f .2 };
         no-element = λ i h. record {
-          load-is = element-beyond links (λ m. m .load) (λ a. elementOf s a .load) i (λ a m. refl) (λ a m. refl) (zeros 64 i) h;
-          capacity-is = element-beyond links (λ m. m .capacity) (λ a. elementOf s a .capacity) i (λ a m. refl) (λ a m. refl) (zeros 64 i) h;
-          flags-is = element-beyond links (λ m. m .flags) (λ a. elementOf s a .flags) i (λ a m. refl) (λ a m. refl) (zeros 64 i) h;
+          load-is = element-beyond links (λ m. m .load) (λ a. elementOf s a .load) 0 i (λ a m. refl) (λ a m. refl) (filled 0 64 i) h;
+          capacity-is = element-beyond links (λ m. m .capacity) (λ a. elementOf s a .capacity) 0 i (λ a m. refl) (λ a m. refl) (filled 0 64 i) h;
+          flags-is = element-beyond links (λ m. m .flags) (λ a. elementOf s a .flags) 0 i (λ a m. refl) (λ a m. refl) (filled 0 64 i) h;
         };
-        link = λ l place lt stand.
+        link = λ l place guard lt stand x.
             let e = holds .link l (omega (arith, links .links-are)) in
             let is : e .found .place ≡ place =
-            stand-once s (word s 4) (word s 6) (links-stand l (e .found .place) (e .start) (e .found .value) (e .net) (e .elements) (e .found .before)) stand in
-            subst (λ (a : ℕ). LinkIs n l (word s (a + 4)) (word s (a + 6)) (word s (a + 8)) (word s (a + 10))) is
-            (record { from-is = e .from-is; to-is = e .to-is; form-is = e .form-is; cost-is = e .cost-is });
+            stand-once s (word s 4) (word s 6) (links-stand l (e .found .place) (e .start) (e .found .value) (e .net) (few l lt) (e .elements) (e .found .before)) stand in
+            let g = states-guard s (e .found .place) (subst (λ (a : ℕ). StatesGuard s a guard) (sym is) x) in
+            subst (λ (a : ℕ). LinkIs n l (word s (a + 4)) (word s (a + 6)) (word s (a + 8)) (word s (a + 10)) guard) is
+            (record {
+              from-is = e .from-is;
+              to-is = e .to-is;
+              form-is = e .form-is;
+              cost-is = e .cost-is;
+              guard-is = within noGuard 0 (n .guard) l (omega (arith, lt, links .elements .counts .links-fit, holds .long .guard-long)) ∙ e .guard-is ∙ g;
+            });
         no-link = λ l h. record {
-          from-is = link-beyond links (λ m. m .from) (λ a. linkOf s a .from) l (λ a m. refl) (λ a m. refl) (zeros 96 l) h;
-          to-is = link-beyond links (λ m. m .to) (λ a. linkOf s a .to) l (λ a m. refl) (λ a m. refl) (zeros 96 l) h;
-          form-is = link-beyond links (λ m. m .form) (λ a. linkOf s a .form) l (λ a m. refl) (λ a m. refl) (zeros 96 l) h;
-          cost-is = link-beyond links (λ m. m .cost) (λ a. linkOf s a .cost) l (λ a m. refl) (λ a m. refl) (zeros 96 l) h;
+          from-is = link-beyond links (λ m. m .from) (λ a. linkOf s a .from) 0 l (λ a m. refl) (λ a m. refl) (filled 0 96 l) h;
+          to-is = link-beyond links (λ m. m .to) (λ a. linkOf s a .to) 0 l (λ a m. refl) (λ a m. refl) (filled 0 96 l) h;
+          form-is = link-beyond links (λ m. m .form) (λ a. linkOf s a .form) 0 l (λ a m. refl) (λ a m. refl) (filled 0 96 l) h;
+          cost-is = link-beyond links (λ m. m .cost) (λ a. linkOf s a .cost) 0 l (λ a m. refl) (λ a m. refl) (filled 0 96 l) h;
+          guard-is = link-beyond links (λ m. m .guard) (λ a. linkOf s a .guard) noGuard l (λ a m. refl) (λ a m. refl) (filled noGuard 96 l) h;
         };
       }
     where
       links : LinksRead s (network-size s at stage n file .links-end) Links n
       links = network-size s at stage n file .links
+
+      few : (l : ℕ) → l < word s 6 → l ≤ 96
+      few l lt = omega (arith, lt, links .elements .counts .links-fit)
 
       holds : NetworkHolds s n
       holds = network-holds s at stage n file
@@ -184,8 +203,9 @@ module _ (s : List ℕ) (at : ℕ) (stage : Stage) (n : Network) (file : network
     pub to : ℕ
     pub form : ℕ
     pub cost : ℕ
-    pub one : LinkIs n l from to form cost
-    pub other : LinkIs m l from to form cost
+    pub guard : ℕ
+    pub one : LinkIs n l from to form cost guard
+    pub other : LinkIs m l from to form cost guard
 
   module _ (m : Network) (states : States s m) where
     same-element : (i : ℕ) → SameElement m i
@@ -216,15 +236,31 @@ module _ (s : List ℕ) (at : ℕ) (stage : Stage) (n : Network) (file : network
     same-link : (l : ℕ) → SameLink m l
     same-link l = go (ltb l (word s 6)) refl
       where
+        either-way : {k kind : ℕ} → kind ≡ k → (kind ≡ 3) ⊎ (kind ≡ 8) → (k ≡ 3) ⊎ (k ≡ 8)
+        either-way e (inl h) = inl (sym e ∙ h)
+        either-way e (inr h) = inr (sym e ∙ h)
+
         go : (t : Bool) → ltb l (word s 6) ≡ t → SameLink m l
         go true t =
             let lt = ltb-true l (word s 6) t in
+            let few : l ≤ 96 = omega (arith, lt, network-size s at stage n file .links .elements .counts .links-fit) in
             let e = network-holds s at stage n file .link l (omega (arith, lt, file-states .links)) in
-            let stand = links-stand l (e .found .place) (e .start) (e .found .value) (e .net) (e .elements) (e .found .before) in
-            record { from = _; to = _; form = _; cost = _; one = file-states .link l (e .found .place) lt stand; other = states .link l (e .found .place) lt stand }
+            let place = e .found .place in
+            let stand = links-stand l place (e .start) (e .found .value) (e .net) few (e .elements) (e .found .before) in
+            let k = goes-one-way Links _ _ (e .found .whole .framed .goes) .0 in
+            let g = stating-guard s place (either-way (e .found .whole .framed .kind-is) k) in
+            record {
+              from = _;
+              to = _;
+              form = _;
+              cost = _;
+              guard = _;
+              one = file-states .link l place (guardOf s place) lt stand g;
+              other = states .link l place (guardOf s place) lt stand g;
+            }
         go false t =
             let le = ltb-false l (word s 6) t in
-            record { from = 0; to = 0; form = 0; cost = 0; one = file-states .no-link l le; other = states .no-link l le }
+            record { from = 0; to = 0; form = 0; cost = 0; guard = noGuard; one = file-states .no-link l le; other = states .no-link l le }
 
     pub states-once : n ≡ m
     states-once = λ i. record {
@@ -235,6 +271,7 @@ module _ (s : List ℕ) (at : ℕ) (stage : Stage) (n : Network) (file : network
       to = to i;
       form = form i;
       cost = cost i;
+      guard = guard i;
       elements = elements i;
       links = links i;
     }
@@ -266,6 +303,10 @@ module _ (s : List ℕ) (at : ℕ) (stage : Stage) (n : Network) (file : network
         cost : n .cost ≡ m .cost
         cost = ext-getD 0 (n .cost) (m .cost) (file-states .wide .cost-long ∙ sym (states .wide .cost-long))
             (λ l _. same-link l .one .cost-is ∙ sym (same-link l .other .cost-is))
+
+        guard : n .guard ≡ m .guard
+        guard = ext-getD noGuard (n .guard) (m .guard) (file-states .wide .guard-long ∙ sym (states .wide .guard-long))
+            (λ l _. same-link l .one .guard-is ∙ sym (same-link l .other .guard-is))
 
         elements : n .elements ≡ m .elements
         elements = file-states .elements ∙ sym (states .elements)

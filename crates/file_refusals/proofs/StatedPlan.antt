@@ -26,13 +26,7 @@ use Rattle.file_refusals.specs.Files.{Stand}
 use Rattle.file_refusals.specs.Stated.{StepIs, StatesPlan}
 use Rattle.file_refusals.proofs.Files.{stand-append, stand-once, Ran}
 use Rattle.file_refusals.proofs.Inputs.{plan-head-ran, steps-run-ran}
-use Rattle.file_refusals.proofs.Stated.{zeros, run-beyond}
-
-opens-all : (k i : ℕ) → getD (replicate k false) i false ≡ false
-opens-all zero zero = refl
-opens-all zero (suc i) = refl
-opens-all (suc k) zero = refl
-opens-all (suc k) (suc i) = opens-all k i
+use Rattle.file_refusals.proofs.Stated.{filled, run-beyond}
 
 -- a state that rule 12 keeps
 two-states : (x : ℕ) → x ≤ 1 → (x ≡ 0) ⊎ (x ≡ 1)
@@ -85,7 +79,7 @@ module _ (s : List ℕ) (head at : ℕ) (stage : Stage) (p : Plan) (file : planF
             subst (λ (a : ℕ). StepIs p i (word s (a + 4)) (word s (a + 6))) is (step-is i e);
         no-step = λ i h. record {
           link-is = run-beyond s (always (linksSeen (word s 6))) (withStep s) (λ q. q .link) (λ q. q .steps) (λ a. word s (a + 4)) 0 (λ a q. refl) (λ a q. refl)
-              (word s (head + 4)) (head + 6) Steps emptyPlan (size .steps-end) Steps p (read .run) i (omega arith) ∙ zeros 255 i;
+              (word s (head + 4)) (head + 6) Steps emptyPlan (size .steps-end) Steps p (read .run) i (omega arith) ∙ filled 0 255 i;
           opens = λ _. closes-none i h;
           closes = λ e. absurd (omega (arith, e));
         };
@@ -107,7 +101,7 @@ module _ (s : List ℕ) (head at : ℕ) (stage : Stage) (p : Plan) (file : planF
       closes-none : (i : ℕ) → word s (head + 4) ≤ i → getD (p .close) i false ≡ false
       closes-none i h =
           run-beyond s (always (linksSeen (word s 6))) (withStep s) (λ q. q .close) (λ q. q .steps) (λ a. eqb (word s (a + 6)) 1) false (λ a q. refl) (λ a q. refl)
-          (word s (head + 4)) (head + 6) Steps emptyPlan (size .steps-end) Steps p (read .run) i (omega arith) ∙ opens-all 255 i
+          (word s (head + 4)) (head + 6) Steps emptyPlan (size .steps-end) Steps p (read .run) i (omega arith) ∙ filled false 255 i
 
   -- ---- and nothing else
 

@@ -1,4 +1,4 @@
--- Document 01, "Files" and refusals 1 to 13, in its own words: the records of the files one behind the other, and the first rule that an input breaks.
+-- Document 01, "Files" and refusals 1 to 13, with document 02's rule 20, in its own words: the records of the files one behind the other, and the first rule that an input breaks.
 -- Assumes nothing.
 use mathlib.Core.List.{List, [], _∷_, _++_}
 use Prim.Native.Nat.{ℕ, _+_, _<_}
@@ -20,7 +20,7 @@ networkStages E K = Head ∷ (replicate E Elements ++ (replicate K Links ++ (End
 abbrev pub planStages : ℕ → List Stage
 planStages steps = PlanHead ∷ (replicate steps Steps ++ (PlanEnd ∷ []))
 
--- records of these stages stand one behind the other, from the first offset to the second, and break none of rules 1 to 12
+-- records of these stages stand one behind the other, from the first offset to the second, and break none of rules 1 to 12 and 20
 pub data Stand (s : List ℕ) (E K : ℕ) : List Stage → ℕ → ℕ → Type 0 where
   none : {at : ℕ} → Stand s E K [] at at
   next : {at end : ℕ} {stage : Stage} {rest : List Stage}
@@ -47,7 +47,7 @@ NetworkBreaks s f = FirstBreak s (word s 4) (word s 6) (networkStages (word s 4)
 abbrev pub PlanBreaks : List ℕ → ℕ → Refusal → Type 0
 PlanBreaks s at f = FirstBreak s (word s 4) (word s 6) (planStages (word s (at + 4))) at f
 
--- "The planning program reads one network file": the first of rules 1 to 13 that s breaks, with its place
+-- "The planning program reads one network file": the first of rules 1 to 13 and 20 that s breaks, with its place
 pub data FirstBroken (s : List ℕ) : Refusal → Type 0 where
   in-file : {f : Refusal} → NetworkBreaks s f → FirstBroken s f
   -- "13. A byte follows the last end record (the place is that byte)."
@@ -60,11 +60,11 @@ pub data FirstBrokenBoth (s : List ℕ) : Refusal → Type 0 where
   behind-plan : {at end : ℕ} → NetworkStands s at → PlanStands s at end → end < length s
       → FirstBrokenBoth s (record { rule = ByteAfterEnd; place = end })
 
--- the planner's input keeps rules 1 to 13: the network file ends where s ends
+-- the planner's input keeps rules 1 to 13 and 20: the network file ends where s ends
 abbrev pub KeepsNetwork : List ℕ → Type 0
 KeepsNetwork s = NetworkStands s (length s)
 
--- the judge's input keeps rules 1 to 13
+-- the judge's input keeps rules 1 to 13 and 20
 pub record KeepsBoth (s : List ℕ) : Type 0 where
   pub middle : ℕ
   pub network : NetworkStands s middle

@@ -1,4 +1,4 @@
--- Document 01, "Files": what the files of an input state. "Elements and links are numbered from 0 in file order, steps from 1."
+-- Document 01, "Files", and document 02: what the files of an input state. "Elements and links are numbered from 0 in file order, steps from 1."
 -- Assumes nothing.
 use mathlib.Core.Path.{_≡_}
 use mathlib.Core.Bool.{true, false}
@@ -21,13 +21,13 @@ pub record ElementIs (n : Network) (i load capacity flags : ℕ) : Type 0 where
   pub flags-is : getD (n .flags) i 0 ≡ flags
 
 -- "Kind 3, link, length 12: two different elements, form .., cost"; document 02: "Kind 8 is a switch laid out as kind 3 .. with one more field, the number of
--- its guard"
+-- its guard"; a number behind the last that a network has room for has none
 pub record LinkIs (n : Network) (l from to form cost guard : ℕ) : Type 0 where
   pub from-is : getD (n .from) l 0 ≡ from
   pub to-is : getD (n .to) l 0 ≡ to
   pub form-is : getD (n .form) l 0 ≡ form
   pub cost-is : getD (n .cost) l 0 ≡ cost
-  pub guard-is : getD (n .guard) l 0 ≡ guard
+  pub guard-is : getD (n .guard) l noGuard ≡ guard
 
 -- the guard that the record of a link states: none for kind 3
 pub data StatesGuard (s : List ℕ) (at : ℕ) : ℕ → Type 0 where
@@ -72,12 +72,12 @@ pub record StatesPlan (s : List ℕ) (head : ℕ) (p : Plan) : Type 0 where
       → StepIs p i (word s (at + 4)) (word s (at + 6))
   pub no-step : (i : ℕ) → word s (head + 4) ≤ i → StepIs p i 0 0
 
--- "The planning program reads one network file": s is one that keeps rules 1 to 13, and n is what it states
+-- "The planning program reads one network file": s is one that keeps rules 1 to 13 and 20, and n is what it states
 pub record NetworkOf (s : List ℕ) (n : Network) : Type 0 where
   pub keeps : KeepsNetwork s
   pub states : States s n
 
--- "The judging program reads a network file with a plan file directly behind it": they keep rules 1 to 13, and n and p are what they state
+-- "The judging program reads a network file with a plan file directly behind it": they keep rules 1 to 13 and 20, and n and p are what they state
 pub record BothOf (s : List ℕ) (n : Network) (p : Plan) : Type 0 where
   pub middle : ℕ
   pub network : NetworkStands s middle

@@ -69,19 +69,19 @@ decoded (Go Over) = refl
 
 unfoldable pub table : List (List ℕ)
 table =
-    (8 ∷ 1 ∷ 8 ∷ 8 ∷ 8 ∷ 8 ∷ 8 ∷ 8 ∷ []) ∷
-    (8 ∷ 8 ∷ 1 ∷ 8 ∷ 8 ∷ 8 ∷ 8 ∷ 1 ∷ []) ∷
-    (8 ∷ 8 ∷ 8 ∷ 2 ∷ 8 ∷ 8 ∷ 8 ∷ 8 ∷ []) ∷
-    (8 ∷ 8 ∷ 8 ∷ 8 ∷ 4 ∷ 8 ∷ 8 ∷ 8 ∷ []) ∷
-    (8 ∷ 8 ∷ 8 ∷ 8 ∷ 8 ∷ 5 ∷ 8 ∷ 8 ∷ []) ∷
-    (8 ∷ 8 ∷ 8 ∷ 8 ∷ 8 ∷ 8 ∷ 5 ∷ 8 ∷ []) ∷
-    (8 ∷ 8 ∷ 8 ∷ 8 ∷ 7 ∷ 8 ∷ 8 ∷ 8 ∷ []) ∷
-    (8 ∷ 8 ∷ 8 ∷ 8 ∷ 8 ∷ 8 ∷ 8 ∷ 8 ∷ []) ∷ []
+    (8 ∷ 1 ∷ 8 ∷ 8 ∷ 8 ∷ 8 ∷ 8 ∷ 8 ∷ 8 ∷ []) ∷
+    (8 ∷ 8 ∷ 1 ∷ 8 ∷ 8 ∷ 8 ∷ 8 ∷ 1 ∷ 8 ∷ []) ∷
+    (8 ∷ 8 ∷ 8 ∷ 2 ∷ 8 ∷ 8 ∷ 8 ∷ 8 ∷ 2 ∷ []) ∷
+    (8 ∷ 8 ∷ 8 ∷ 8 ∷ 4 ∷ 8 ∷ 8 ∷ 8 ∷ 8 ∷ []) ∷
+    (8 ∷ 8 ∷ 8 ∷ 8 ∷ 8 ∷ 5 ∷ 8 ∷ 8 ∷ 8 ∷ []) ∷
+    (8 ∷ 8 ∷ 8 ∷ 8 ∷ 8 ∷ 8 ∷ 5 ∷ 8 ∷ 8 ∷ []) ∷
+    (8 ∷ 8 ∷ 8 ∷ 8 ∷ 7 ∷ 8 ∷ 8 ∷ 8 ∷ 8 ∷ []) ∷
+    (8 ∷ 8 ∷ 8 ∷ 8 ∷ 8 ∷ 8 ∷ 8 ∷ 8 ∷ 8 ∷ []) ∷ []
 
 right : ℕ → Stage → ℕ → Bool
 right d s k = eqb (getD (getD table (stageNumber s) []) k d) (code (nextStage s k))
 
-row : (d : ℕ) (s : Stage) → T (all (right d s) 8)
+row : (d : ℕ) (s : Stage) → T (all (right d s) 9)
 unfolding right table code nextStage
 row d Head = tt
 row d Elements = tt
@@ -93,17 +93,17 @@ row d PlanEnd = tt
 row d Over = tt
 
 -- each entry of the table, whatever stands past its end
-pub entry : (d : ℕ) (s : Stage) (n k : ℕ) → n ≡ stageNumber s → k < 8 → namedBy (getD (getD table n []) k d) ≡ nextStage s k
+pub entry : (d : ℕ) (s : Stage) (n k : ℕ) → n ≡ stageNumber s → k < 9 → namedBy (getD (getD table n []) k d) ≡ nextStage s k
 unfolding right
 entry d s n k e h =
-    rw e (ap namedBy (eqb→eq (getD (getD table (stageNumber s) []) k d) (code (nextStage s k)) (at (right d s) 8 (row d s) k h)) ∙ decoded (nextStage s k))
+    rw e (ap namedBy (eqb→eq (getD (getD table (stageNumber s) []) k d) (code (nextStage s k)) (at (right d s) 9 (row d s) k h)) ∙ decoded (nextStage s k))
 
 -- a kind past the table
-pub past : (s : Stage) (k : ℕ) → 8 ≤ k → Refused ≡ nextStage s k
+pub past : (s : Stage) (k : ℕ) → 9 ≤ k → Refused ≡ nextStage s k
 unfolding nextStage
 past Head k h = simp (ne-eqb k 1 (omega arith))
 past Elements k h = simp (ne-eqb k 2 (omega arith), ne-eqb k 7 (omega arith))
-past Links k h = simp (ne-eqb k 3 (omega arith))
+past Links k h = simp (ne-eqb k 3 (omega arith), ne-eqb k 8 (omega arith))
 past End k h = simp (ne-eqb k 4 (omega arith))
 past PlanHead k h = simp (ne-eqb k 5 (omega arith))
 past Steps k h = simp (ne-eqb k 6 (omega arith))

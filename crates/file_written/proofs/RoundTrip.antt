@@ -1,22 +1,26 @@
 -- The round trip of elements and links: the bytes of each are one record that states it, the same wherever they stand, so the file is read as their network, by induction over the lists.
 -- Assumes nothing.
-use mathlib.Core.Path.{_≡_, refl, sym, ap, subst, _∙_}
+use mathlib.Core.Path.{_≡_, refl, sym, ap, _∙_}
+use mathlib.Core.Bool.{Bool, true, false}
 use mathlib.Core.List.{List, [], _∷_, _++_, append-nil, flatMap, foldl}
+use mathlib.Core.Logic.{inl, inr}
 use Prim.Native.Nat.{ℕ, _+_, _*_, _/_, _%_, _≤_}
 use native.Mathlib.Nat.{add-zero, zero-add}
 use native.Mathlib.Omega.{arith}
-use lib.ListN.{length, length-append}
-use borrow.Author.Tests.{le-ltb, lt-leb, ne-eqb}
+use lib.Dec.{eqb}
+use lib.ListN.{length, getD, length-append}
+use borrow.Author.Tests.{eqb-true, eqb-false, le-ltb, lt-leb, ne-eqb}
 use Rattle.network.specs.declared.Element.{Element}
 use Rattle.network.specs.declared.Link.{Link}
 use Rattle.network.specs.declared.Network.{Network}
-use Rattle.network.specs.Networks.{emptyNetwork, elementAdded, linkAdded}
+use Rattle.network.specs.Networks.{noGuard, emptyNetwork, elementAdded, linkAdded}
+use Rattle.network.specs.Refusals.{pick}
 use Rattle.file_stages.specs.declared.Stage.{Stage}
 use Rattle.file_stages.specs.declared.Stage.the-variants.{Head, Elements, Links, End, PlanHead}
 use Rattle.file_stages.specs.Stages.{nextStage, afterLast}
 use Rattle.file_fields.specs.declared.Seen.{Seen}
 use Rattle.file_fields.specs.Views.{nothingSeen, networkSeen}
-use Rattle.file_fields.specs.Fields.{word, lengthOf, fieldRules, headRules, flagsRules, linkRules, wideWord}
+use Rattle.file_fields.specs.Fields.{word, lengthOf, fieldRules, headRules, flagsRules, plainLinkRules, guardRules, linkRules, wideWord}
 use Rattle.file_records.specs.declared.Found.the-variants.{Record}
 use Rattle.file_records.specs.Records.{dueAt}
 use Rattle.file_records.proofs.Reader.{due-found}
@@ -24,15 +28,15 @@ use Rattle.file_records.proofs.Due.{Framed, due-kept}
 use Rattle.file_records.proofs.SameBytes.{SameFrom}
 use Rattle.file_records.proofs.Alike.{framed-looks, placed, due-alike}
 use Rattle.file_network.specs.Runs.{Reading, reached, readOn, records, always, asIs}
-use Rattle.file_network.specs.NetworkFiles.{wideElement, elementOf, linkOf, withElement, withLink, endOn, endOnBy, linksOn, linksOnBy, elementsOn, elementsOnBy, networkFile, networkFileBy}
+use Rattle.file_network.specs.NetworkFiles.{wideElement, elementOf, guardOf, linkOf, withElement, withLink, endOn, endOnBy, linksOn, linksOnBy, elementsOn, elementsOnBy, networkFile, networkFileBy}
 use Rattle.file_network.specs.Inputs.{networkInput, networkInputBy}
 use Rattle.file_network.proofs.Runs.{records-none, records-suc}
 use Rattle.file_network.proofs.Parts.{headRun}
 use Rattle.file_network.proofs.NetworkAlike.{element-same, link-same}
-use Rattle.file_network.proofs.Accepted.{ElementIn, LinkIn}
+use Rattle.file_network.proofs.Accepted.{ElementIn, LinkIn, Guarded, GuardIn}
 use Rattle.file_writer.specs.Writing.{endBytes}
 use Rattle.file_writer.proofs.Stands.{Stands, stands-between, stands-left, stands-right, stands-word, number-back}
-use Rattle.file_written.specs.NetworkBytes.{headBytes, elementBytes, linkBytes, networkBytes, networkOf}
+use Rattle.file_written.specs.NetworkBytes.{headBytes, elementBytes, plainBytes, guardedBytes, linkBytes, networkBytes, networkOf}
 use Rattle.file_written.proofs.Each.{Each}
 
 -- ---- bytes that are one record
@@ -133,17 +137,21 @@ flags-written n e h = (
 pub element-written : (n : Network) (e : Element) → ElementIn e → Stated (always nothingSeen) Elements elementOf elementBytes n e
 element-written n e h = flags-written n e (h .flags-in)
 
--- a link's rules ask of what was read how many elements it has
-pub link-written : (n : Network) (l : Link) → LinkIn (n .elements) l → Stated networkSeen Links linkOf linkBytes n l
-unfolding linkBytes word nextStage lengthOf fieldRules linkRules linkOf networkSeen
-link-written n l h =
+-- a link's rules ask of what was read how many elements it has, and of its guard
+pub record LinkKept (n : Network) (l : Link) : Type 0 where
+  pub in-range : LinkIn (n .elements) l
+  pub guard : GuardIn (networkSeen n) l
+
+plain-written : (n : Network) (l : Link) → LinkIn (n .elements) l → l .guard ≡ noGuard → IsRecord (networkSeen n) Links Links (plainBytes l) × (linkOf (plainBytes l) 0 ≡ l)
+unfolding plainBytes word nextStage lengthOf fieldRules linkRules plainLinkRules linkOf guardOf networkSeen
+plain-written n l h none =
     let from = number-back (l .from) in
     let to = number-back (l .to) in
     let form = number-back (l .form) in
     let cost = number-back (l .cost) in (
       (
         3,
-        due-found (linkBytes l) (networkSeen n) 0 3 12 Links Links refl refl (omega arith) (omega arith) refl refl
+        due-found (plainBytes l) (networkSeen n) 0 3 12 Links Links refl refl (omega arith) (omega arith) refl refl
             (rw (
               from,
               to,
@@ -156,18 +164,63 @@ link-written n l h =
               h .suited,
             )),
       ),
-      rw (from, to, form, cost),
+      rw (from, to, form, cost)
+          (ap (λ (g : ℕ). record { from = l .from; to = l .to; form = l .form; cost = l .cost; guard = g }) (sym none)),
     )
+
+guarded-written : (n : Network) (l : Link) → LinkIn (n .elements) l → Guarded (networkSeen n) l → IsRecord (networkSeen n) Links Links (guardedBytes l) × (linkOf (guardedBytes l) 0 ≡ l)
+unfolding guardedBytes word nextStage lengthOf fieldRules linkRules plainLinkRules guardRules linkOf guardOf networkSeen
+guarded-written n l h g =
+    let from = number-back (l .from) in
+    let to = number-back (l .to) in
+    let form = number-back (l .form) in
+    let cost = number-back (l .cost) in
+    let guard : word (guardedBytes l) 12 ≡ l .guard = omega arith in (
+      (
+        8,
+        due-found (guardedBytes l) (networkSeen n) 0 8 14 Links Links refl refl (omega arith) (omega arith) refl refl
+            (rw (
+              from,
+              to,
+              form,
+              cost,
+              guard,
+              lt-leb (n .elements) (l .from) (h .from-in),
+              lt-leb (n .elements) (l .to) (h .to-in),
+              ne-eqb (l .from) (l .to) (h .differ),
+              le-ltb 2 (l .form) (h .form-in),
+              h .suited,
+              ne-eqb (l .form) 0 (g .switch),
+              lt-leb (n .links) (l .guard) (g .earlier),
+              ne-eqb (getD (n .form) (l .guard) 0) 0 (g .guards),
+            )),
+      ),
+      rw (from, to, form, cost, guard),
+    )
+
+pub link-written : (n : Network) (l : Link) → LinkKept n l → Stated networkSeen Links linkOf linkBytes n l
+unfolding linkBytes
+link-written n l h = go (eqb (l .guard) noGuard) refl
+  where
+    some : ¬ (l .guard ≡ noGuard) → GuardIn (networkSeen n) l → Guarded (networkSeen n) l
+    some ne (inl none) = absurd (ne none)
+    some ne (inr g) = g
+
+    go : (t : Bool) → eqb (l .guard) noGuard ≡ t
+        → IsRecord (networkSeen n) Links Links (pick t (plainBytes l) (guardedBytes l)) × (linkOf (pick t (plainBytes l) (guardedBytes l)) 0 ≡ l)
+    go true t = plain-written n l (h .in-range) (eqb-true (l .guard) noGuard t)
+    go false t = guarded-written n l (h .in-range) (some (eqb-false (l .guard) noGuard t) (h .guard))
+
+-- links one after the other, each by those before it
+abbrev pub LinksKept : Network → List Link → Type 0
+LinksKept n [] = Unit
+LinksKept n (l ∷ ls) = LinkKept n l × LinksKept (linkAdded n l) ls
 
 end-written : IsRecord nothingSeen End PlanHead endBytes
 unfolding endBytes word nextStage lengthOf fieldRules
 end-written = (4, due-found endBytes nothingSeen 0 4 4 End PlanHead refl refl (omega arith) (omega arith) refl refl refl)
 
 -- ---- the file
-
-folded-elements : (n : Network) (es : List Element) → foldl elementAdded n es .elements ≡ n .elements + length es
-folded-elements n [] = sym (add-zero (n .elements))
-folded-elements n (e ∷ es) = let q = folded-elements (elementAdded n e) es in omega arith
 
 head-words : {s : List ℕ} (elements links : ℕ) → Stands s 0 (headBytes elements links) → (word s 4 ≡ elements) × (word s 6 ≡ links)
 unfolding headBytes word
@@ -176,9 +229,9 @@ head-words elements links h = (
   stands-word (headBytes elements links) h 6 (omega arith) ∙ number-back links,
 )
 
--- elements and links that keep rules 5 to 9
+-- elements and links that keep rules 5 to 9 and 20
 module _ (es : List Element) (ls : List Link) (some : 1 ≤ length es) (few : length es ≤ 64) (fewer : length ls ≤ 96)
-    (elements-keep : Each ElementIn es) (links-keep : Each (LinkIn (length es)) ls) where
+    (elements-keep : Each ElementIn es) (links-keep : LinksKept (foldl elementAdded emptyNetwork es) ls) where
   abbrev file : List ℕ
   file = networkBytes es ls
 
@@ -209,8 +262,7 @@ module _ (es : List Element) (ls : List Link) (some : 1 ≤ length es) (few : le
       let third : records s networkSeen (withLink s) (word s 6) (8 + length xs) Links n1 ≡ reached (8 + length xs + length ys) Links n2 =
       rw (words .1)
       (run-read networkSeen Links linkOf linkBytes linkAdded (λ r s at kind same f. link-same same (omega arith) f)
-      (λ n ls. Each (LinkIn (n .elements)) ls) (λ n l ls q. (link-written n l (q .0), q .1)) s ls (8 + length xs) n1
-      (subst (λ (k : ℕ). Each (LinkIn k) ls) (sym (folded-elements emptyNetwork es ∙ zero-add (length es))) links-keep)
+      LinksKept (λ n l ls q. (link-written n l (q .0), q .1)) s ls (8 + length xs) n1 links-keep
       (rw behind at (stands-right (head ++ xs) ys three))) in
       let fourth : records s (always nothingSeen) asIs 1 (8 + length xs + length ys) End n2 ≡ reached (8 + length xs + length ys + 4) PlanHead n2 =
       one-read endBytes (rw last at (stands-right (head ++ xs ++ ys) endBytes h)) End PlanHead end-written n2 in
@@ -224,7 +276,7 @@ module _ (es : List Element) (ls : List Link) (some : 1 ≤ length es) (few : le
   pub file-read : (post : List ℕ) → networkFile (file ++ post) ≡ reached (length file) PlanHead (networkOf es ls)
   file-read post = file-stands (stands-between [] file post)
 
-  -- alone: it is accepted by rules 1 to 13, as the network that they make, and ends at its length
+  -- alone: it is accepted by rules 1 to 13 and 20, as the network that they make, and ends at its length
   pub round-trip : networkInput file ≡ reached (length file) PlanHead (networkOf es ls)
   unfolding networkInputBy
   round-trip =

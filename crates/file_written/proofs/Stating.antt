@@ -1,33 +1,35 @@
--- The file of a network in the paper's words: it is bytes that keep rules 1 to 13 and state the network; and whatever a file states is such a network.
+-- The file of a network in the paper's words: it is bytes that keep rules 1 to 13 and 20 and state the network; and whatever a file states is such a network.
 -- Assumes nothing.
 use mathlib.Core.Path.{_≡_, ap}
+use mathlib.Core.Bool.{Bool, true, false}
 use mathlib.Core.List.{List, [], _∷_, _++_, flatMap}
 use mathlib.Core.Logic.{_↔_}
 use Prim.Native.Nat.{ℕ, _/_, _%_, _^_, _<_, _≤_}
 use native.Mathlib.Omega.{arith}
+use lib.Dec.{eqb}
 use lib.ListN.{length, getD}
 use Rattle.network.specs.declared.Element.{Element}
 use Rattle.network.specs.declared.Link.{Link}
 use Rattle.network.specs.declared.Network.{Network}
+use Rattle.network.specs.Networks.{noGuard}
+use Rattle.network.specs.Refusals.{pick}
 use Rattle.network.specs.Accepted.{WellFormed}
 use Rattle.file_stages.specs.declared.Stage.{Stage}
 use Rattle.file_network.specs.Runs.{reached}
-use Rattle.file_network.specs.NetworkFiles.{elementOf, networkFile}
+use Rattle.file_network.specs.NetworkFiles.{networkFile}
 use Rattle.file_network.specs.Inputs.{networkRead}
-use Rattle.file_network.proofs.Sizes.{network-input-size}
-use Rattle.file_network.proofs.Contents.{network-holds}
-use Rattle.file_network.proofs.Accepted.{LinkIn, word-bound}
+use Rattle.file_network.proofs.Accepted.{LinkIn}
 use Rattle.file_writer.specs.Writing.{number, endBytes}
 use Rattle.file_refusals.specs.Stated.{States, NetworkOf}
 use Rattle.file_refusals.proofs.Stated.{file-states}
-use Rattle.file_refusals.proofs.Reading.{stated-read, file-formed, network-read}
-use Rattle.file_written.specs.NetworkBytes.{headBytes, elementBytes, linkBytes, networkBytes, elementIn, linkIn, numbered, networkFileOf, Tidy}
+use Rattle.file_refusals.proofs.Reading.{file-formed, network-read}
+use Rattle.file_written.specs.NetworkBytes.{headBytes, elementBytes, plainBytes, guardedBytes, linkBytes, networkBytes, elementIn, linkIn, numbered, networkFileOf, Tidy}
 use Rattle.file_written.proofs.Each.{Each, each-as, each-append, each-flat, each-at, each-numbered, numbered-length}
 use Rattle.file_written.proofs.OfNetwork.{link-kept, network-written}
 
 -- ---- what is written
 
--- the file of a network keeps rules 1 to 13 and states it
+-- the file of a network keeps rules 1 to 13 and 20 and states it
 pub network-file : (n : Network) → WellFormed n → Tidy n → NetworkOf (networkFileOf n) n
 unfolding networkRead
 network-file n w tidy = network-read (networkFileOf n) n .0 (ap networkRead (network-written n w tidy))
@@ -50,11 +52,17 @@ element-bytes e load capacity flags =
     words-bytes (14 ∷ 7 ∷ e .load % 65536 ∷ e .load / 65536 ∷ e .capacity % 65536 ∷ e .capacity / 65536 ∷ e .flags ∷ [])
     (omega arith, (omega arith, (omega arith, (omega arith, (omega arith, (omega arith, (omega arith, tt)))))))
 
-link-bytes : (elements : ℕ) (l : Link) → elements ≤ 64 → LinkIn elements l → Each Byte (linkBytes l)
-unfolding linkBytes flatMap
-link-bytes elements l few h =
-    words-bytes (12 ∷ 3 ∷ l .from ∷ l .to ∷ l .form ∷ l .cost ∷ [])
-    (omega arith, (omega arith, (omega (arith, h .from-in), (omega (arith, h .to-in), (omega (arith, h .form-in), (h .cost-in, tt))))))
+link-bytes : (elements : ℕ) (l : Link) → elements ≤ 64 → LinkIn elements l → l .guard ≤ noGuard → Each Byte (linkBytes l)
+unfolding linkBytes plainBytes guardedBytes flatMap
+link-bytes elements l few h guard = go (eqb (l .guard) noGuard)
+  where
+    go : (t : Bool) → Each Byte (pick t (plainBytes l) (guardedBytes l))
+    go true =
+        words-bytes (12 ∷ 3 ∷ l .from ∷ l .to ∷ l .form ∷ l .cost ∷ [])
+        (omega arith, (omega arith, (omega (arith, h .from-in), (omega (arith, h .to-in), (omega (arith, h .form-in), (h .cost-in, tt))))))
+    go false =
+        words-bytes (14 ∷ 8 ∷ l .from ∷ l .to ∷ l .form ∷ l .cost ∷ l .guard ∷ [])
+        (omega arith, (omega arith, (omega (arith, h .from-in), (omega (arith, h .to-in), (omega (arith, h .form-in), (h .cost-in, (omega (arith, guard), tt)))))))
 
 end-bytes : Each Byte endBytes
 unfolding endBytes flatMap
@@ -76,7 +84,7 @@ bytes-written n w =
     element-bytes (elementIn n i) (w .load-in i (omega arith)) (w .capacity-in i (omega arith)) (w .flags-in i (omega arith))))))
     (each-flat Byte linkBytes ls
     (each-numbered (λ l. Each Byte (linkBytes l)) (linkIn n) 0 (n .links)
-    (λ l _ lt. link-bytes (n .elements) (linkIn n l) (w .elements-fit) (link-kept n w l (omega arith))))))
+    (λ l _ lt. link-bytes (n .elements) (linkIn n l) (w .elements-fit) (link-kept n w l (omega arith)) (w .guard-in l (omega arith))))))
     end-bytes)
   where
     es : List Element

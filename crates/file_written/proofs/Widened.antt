@@ -1,33 +1,30 @@
--- A narrow element rewritten as kind 7: its bytes are a record that states the same element, so input that keeps rules 1 to 13 is read as the same network and plan.
+-- A narrow element rewritten as kind 7: its bytes are a record that states the same element, so input that keeps rules 1 to 13 and 20 is read as the same network and plan.
 -- Assumes nothing.
 use mathlib.Core.Path.{_≡_, refl, sym, ap, subst, _∙_}
-use mathlib.Core.List.{List, _∷_, _++_}
+use mathlib.Core.List.{List, _++_}
 use Prim.Native.Nat.{ℕ, _+_, _<_, _≤_}
-use native.Mathlib.Nat.{zero-add, add-zero}
 use native.Mathlib.Omega.{arith}
-use lib.ListN.{length, replicate}
+use lib.ListN.{length}
 use Rattle.network.specs.declared.Element.{Element}
 use Rattle.network.specs.declared.Network.{Network}
 use Rattle.file_stages.specs.declared.Stage.{Stage}
-use Rattle.file_stages.specs.declared.Stage.the-variants.{Head, Elements}
+use Rattle.file_stages.specs.declared.Stage.the-variants.{Elements}
 use Rattle.file_fields.specs.Fields.{word, lengthOf}
 use Rattle.file_fields.specs.Views.{nothingSeen}
 use Rattle.file_records.specs.declared.Found.the-variants.{Record}
 use Rattle.file_records.specs.Records.{kindField, dueAt}
 use Rattle.file_records.proofs.Due.{Whole, whole-found, as-kind, element-kept}
-use Rattle.file_records.proofs.Reader.{due-found}
-use Rattle.file_network.specs.Runs.{Reading, refused, reached}
+use Rattle.file_network.specs.Runs.{Reading, reached}
 use Rattle.file_network.specs.NetworkFiles.{narrowElement, elementOf, networkFile}
 use Rattle.file_network.specs.Inputs.{networkInput, networkRead}
 use Rattle.file_network.proofs.Elements.{element-narrow}
 use Rattle.file_network.proofs.Sizes.{network-input-size, network-size}
 use Rattle.file_network.proofs.Contents.{network-holds}
 use Rattle.file_network.proofs.Alike.{Moved, both-refused, both-reached}
-use Rattle.file_plan.specs.declared.plan.Plan.{Plan}
 use Rattle.file_both.specs.Inputs.{bothInput, bothRead}
 use Rattle.file_both.proofs.Sizes.{both-size}
 use Rattle.file_writer.proofs.Stands.{stands-between, stands-word}
-use Rattle.file_refusals.specs.Files.{Stand, KeepsNetwork, KeepsBoth}
+use Rattle.file_refusals.specs.Files.{KeepsNetwork, KeepsBoth}
 use Rattle.file_refusals.proofs.Files.{stand-once}
 use Rattle.file_refusals.proofs.Stated.{elements-stand}
 use Rattle.file_refusals.proofs.Inputs.{network-kept, both-kept}
@@ -135,7 +132,7 @@ widened-network s t w = network-same t s (w .front) (w .narrow) (w .back) (w .wa
 pub widened-both : (s t : List ℕ) → Widened s t → KeepsBoth s → bothRead (bothInput t) ≡ bothRead (bothInput s)
 widened-both s t w = both-same t s (w .front) (w .narrow) (w .back) (w .was) (w .kind) (w .long) (w .there) (w .is)
 
--- ---- one after the other: what is read still keeps rules 1 to 13
+-- ---- one after the other: what is read still keeps rules 1 to 13 and 20
 
 widened-keeps : (s t : List ℕ) → Widened s t → KeepsNetwork s → KeepsNetwork t
 unfolding networkRead

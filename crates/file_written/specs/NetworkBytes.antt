@@ -3,11 +3,13 @@
 -- Assumes nothing.
 use mathlib.Core.List.{List, [], _∷_, _++_, flatMap, foldl}
 use Prim.Native.Nat.{ℕ, zero, suc, _/_, _%_, _≤_}
+use lib.Dec.{eqb}
 use lib.ListN.{length, getD}
 use Rattle.network.specs.declared.Element.{Element}
 use Rattle.network.specs.declared.Link.{Link}
 use Rattle.network.specs.declared.Network.{Network}
-use Rattle.network.specs.Networks.{emptyNetwork, elementAdded, linkAdded}
+use Rattle.network.specs.Networks.{noGuard, emptyNetwork, elementAdded, linkAdded}
+use Rattle.network.specs.Refusals.{pick}
 use Rattle.file_writer.specs.Writing.{number, endBytes}
 use Rattle.file_refusals.specs.Stated.{ElementIs, LinkIs}
 
@@ -26,8 +28,17 @@ unfoldable pub elementBytes : Element → List ℕ
 elementBytes e = number 14 ++ number 7 ++ wideNumber (e .load) ++ wideNumber (e .capacity) ++ number (e .flags)
 
 -- "Kind 3, link, length 12: two different elements, form .., cost"
+unfoldable pub plainBytes : Link → List ℕ
+plainBytes l = number 12 ++ number 3 ++ number (l .from) ++ number (l .to) ++ number (l .form) ++ number (l .cost)
+
+-- document 02: "Kind 8 is a switch laid out as kind 3 .. with one more field, the number of its guard ..; length 14"
+unfoldable pub guardedBytes : Link → List ℕ
+guardedBytes l =
+    number 14 ++ number 8 ++ number (l .from) ++ number (l .to) ++ number (l .form) ++ number (l .cost) ++ number (l .guard)
+
+-- a link that has a guard is of kind 8
 unfoldable pub linkBytes : Link → List ℕ
-linkBytes l = number 12 ++ number 3 ++ number (l .from) ++ number (l .to) ++ number (l .form) ++ number (l .cost)
+linkBytes l = pick (eqb (l .guard) noGuard) (plainBytes l) (guardedBytes l)
 
 -- "A network file is one head, E elements, K links, one end."
 unfoldable pub networkBytes : List Element → List Link → List ℕ
@@ -44,7 +55,8 @@ abbrev pub elementIn : Network → ℕ → Element
 elementIn n i = record { load = getD (n .load) i 0; capacity = getD (n .capacity) i 0; flags = getD (n .flags) i 0 }
 
 abbrev pub linkIn : Network → ℕ → Link
-linkIn n l = record { from = getD (n .from) l 0; to = getD (n .to) l 0; form = getD (n .form) l 0; cost = getD (n .cost) l 0 }
+linkIn n l =
+    record { from = getD (n .from) l 0; to = getD (n .to) l 0; form = getD (n .form) l 0; cost = getD (n .cost) l 0; guard = getD (n .guard) l 0 }
 
 -- so many of what is numbered, from a number on
 unfoldable pub numbered : {A : Type 0} → (ℕ → A) → ℕ → ℕ → List A
@@ -56,7 +68,7 @@ networkFileOf n = networkBytes (numbered (elementIn n) 0 (n .elements)) (numbere
 
 -- ---- the networks that files state
 
--- zeros stand behind the last element and the last link
+-- zeros stand behind the last element and the last link, and no guards
 pub record Tidy (n : Network) : Type 0 where
   pub no-element : (i : ℕ) → n .elements ≤ i → ElementIs n i 0 0 0
-  pub no-link : (l : ℕ) → n .links ≤ l → LinkIs n l 0 0 0 0
+  pub no-link : (l : ℕ) → n .links ≤ l → LinkIs n l 0 0 0 0 noGuard

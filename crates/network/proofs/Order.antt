@@ -1,11 +1,12 @@
--- The order of the rules: each stands in it once, so a position belongs to one rule, and so does a number.
+-- The order of the rules: each stands in it once, so a position belongs to one rule, and so does a number; rule 20 stands behind rule 9.
 -- Assumes nothing.
 use mathlib.Core.Path.{_≡_, refl, sym, ap, _∙_}
 use Prim.Native.Nat.{ℕ}
+use native.Mathlib.Omega.{arith}
 use lib.ListN.{getD}
 use Rattle.network.specs.declared.refusal.Rule.{Rule}
 use Rattle.network.specs.declared.refusal.Rule.the-variants.{RecordMissing, KindOutOfPlace, WrongLength, RecordCutOff, HeadOutOfRange, UnknownFlags, BadEnds, UnknownForm, UnsuitedCost, TooManySteps, UnknownLink, UnknownState, ByteAfterEnd, NotATree, TwoSources, FaultWithSource, Overloaded, TooManyOperable, BufferTooShort, BadGuard}
-use Rattle.network.specs.Refusals.{ruleNumber, checkedOrder, countBefore, position}
+use Rattle.network.specs.Refusals.{ruleNumber, checkedOrder, countBefore, position, Sooner}
 
 at-position : (r : Rule) → getD checkedOrder (position r) RecordMissing ≡ r
 unfolding position
@@ -32,6 +33,11 @@ at-position BadGuard = refl
 
 pub position-once : (q r : Rule) → position q ≡ position r → q ≡ r
 position-once q r e = sym (at-position q) ∙ ap (λ (n : ℕ). getD checkedOrder n RecordMissing) e ∙ at-position r
+
+-- document 02: rule 20 is checked "after 9 in the same record"
+pub guard-after-cost : Sooner UnsuitedCost BadGuard
+unfolding position
+guard-after-cost = omega arith
 
 pub rule-numbered : (q r : Rule) → ruleNumber q ≡ ruleNumber r → q ≡ r
 unfolding position

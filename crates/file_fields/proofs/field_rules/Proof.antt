@@ -1,8 +1,8 @@
--- `file_fields::field_rules` finds the first broken of rules 5 to 12: the kind picks the rules that speak of it.
+-- `file_fields::field_rules` finds the first broken of rules 5 to 12 and 20: the kind picks the rules that speak of it.
 -- Assumes nothing.
 use native.Mathlib.Omega.{arith}
 use borrow.Author.Tests.{ne-eqb}
-use Rattle.file_fields.specs.Fields.{lengthOf, fieldRules, headRules, flagsRules, linkRules, planHeadRules, stepRules}
+use Rattle.file_fields.specs.Fields.{lengthOf, fieldRules, headRules, flagsRules, plainLinkRules, linkRules, guardRules, planHeadRules, stepRules}
 use Rattle.file_fields.proofs.field_rules.Statement.{statement}
 use Rattle.file_fields.proofs.field_rules.Tie as tie
 
@@ -47,7 +47,7 @@ unfolding fieldRules flagsRules
 returns-2 c = rw (c .before .match .keys2) (c .flags-rules .ensures)
 
 returns-3 : tie.Need-returns-3
-unfolding fieldRules linkRules
+unfolding fieldRules linkRules plainLinkRules
 returns-3 c = rw (c .before .match .keys3) (c .link-rules .ensures)
 
 returns-4 : tie.Need-returns-4
@@ -62,17 +62,26 @@ returns-6 : tie.Need-returns-6
 unfolding fieldRules flagsRules
 returns-6 c = rw (c .before .match .keys6) (c .flags-rules2 .ensures)
 
+guarded-link-rules-requires : tie.Need-guarded-link-rules-requires
+unfolding lengthOf
+guarded-link-rules-requires c κs = omega (arith, rw (c .match .keys7) at (c .before .before .pre))
+
 returns-7 : tie.Need-returns-7
+unfolding fieldRules linkRules plainLinkRules guardRules
+returns-7 c = rw (c .before .match .keys7) (c .guarded-link-rules .ensures)
+
+returns-8 : tie.Need-returns-8
 unfolding fieldRules
-returns-7 c =
+returns-8 c =
     let k = c .before .before .args .kind in
     simp (
-      ne-eqb k 1 (c .match .rest .0 .0 .0 .0 .0 .1),
-      ne-eqb k 2 (c .match .rest .0 .0 .0 .0 .1),
-      ne-eqb k 3 (c .match .rest .0 .0 .0 .1),
-      ne-eqb k 5 (c .match .rest .0 .0 .1),
-      ne-eqb k 6 (c .match .rest .0 .1),
-      ne-eqb k 7 (c .match .rest .1),
+      ne-eqb k 1 (c .match .rest .0 .0 .0 .0 .0 .0 .1),
+      ne-eqb k 2 (c .match .rest .0 .0 .0 .0 .0 .1),
+      ne-eqb k 3 (c .match .rest .0 .0 .0 .0 .1),
+      ne-eqb k 5 (c .match .rest .0 .0 .0 .1),
+      ne-eqb k 6 (c .match .rest .0 .0 .1),
+      ne-eqb k 7 (c .match .rest .0 .1),
+      ne-eqb k 8 (c .match .rest .1),
     )
 
 pub field-rules-spec : {M : Type 1} → statement M
@@ -93,4 +102,6 @@ field-rules-spec =
     add-flags-rules-2
     flags-rules-requires-2
     returns-6
-    returns-7)
+    guarded-link-rules-requires
+    returns-7
+    returns-8)

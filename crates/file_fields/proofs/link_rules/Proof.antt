@@ -1,7 +1,6 @@
 -- `file_fields::link_rules` finds rules 7 to 9 in their order: each return by the tests that led there.
 -- Assumes nothing.
-use borrow.Author.Tests.{lt-ltb, le-ltb}
-use Rattle.file_fields.specs.Fields.{linkRules}
+use Rattle.file_fields.specs.Fields.{plainLinkRules}
 use native.Mathlib.Omega.{arith}
 use Rattle.file_fields.proofs.link_rules.Statement.{statement}
 use Rattle.file_fields.proofs.link_rules.Tie as tie
@@ -28,7 +27,7 @@ bad-ends-requires : tie.Need-bad-ends-requires
 bad-ends-requires c κs = tt
 
 returns : tie.Need-returns
-unfolding linkRules
+unfolding plainLinkRules
 returns c = simp (
   ← c .before .before .before .word-at .ensures,
   ← c .before .before .word-at2 .ensures,
@@ -42,15 +41,19 @@ add-word-at-3 c = omega arith
 word-at-requires-3 : tie.Need-word-at-requires-3
 word-at-requires-3 c κs = omega arith
 
+unknown-form-requires : tie.Need-unknown-form-requires
+unknown-form-requires c κs = tt
+
 returns-2 : tie.Need-returns-2
-unfolding linkRules
+unfolding plainLinkRules
 returns-2 c = simp (
-  ← c .before .before .before .before .before .word-at .ensures,
-  ← c .before .before .before .before .word-at2 .ensures,
-  ← c .before .before .before .bad-ends .ensures,
-  c .before .before .if1 .left,
-  ← c .before .word-at3 .ensures,
-  lt-ltb _ _ (c .if2 .taken),
+  ← c .before .before .before .before .before .before .word-at .ensures,
+  ← c .before .before .before .before .before .word-at2 .ensures,
+  ← c .before .before .before .before .bad-ends .ensures,
+  c .before .before .before .if1 .left,
+  ← c .before .before .word-at3 .ensures,
+  ← c .before .unknown-form .ensures,
+  c .if2 .taken,
 )
 
 add-word-at-4 : tie.Need-add-word-at-4
@@ -63,28 +66,30 @@ cost-suits-requires : tie.Need-cost-suits-requires
 cost-suits-requires c κs = tt
 
 returns-3 : tie.Need-returns-3
-unfolding linkRules
+unfolding plainLinkRules
 returns-3 c = simp (
-  ← c .before .before .before .before .before .before .before .before .word-at .ensures,
-  ← c .before .before .before .before .before .before .before .word-at2 .ensures,
-  ← c .before .before .before .before .before .before .bad-ends .ensures,
-  c .before .before .before .before .before .if1 .left,
-  ← c .before .before .before .before .word-at3 .ensures,
-  le-ltb _ _ (c .before .before .before .if2 .left),
+  ← c .before .before .before .before .before .before .before .before .before .word-at .ensures,
+  ← c .before .before .before .before .before .before .before .before .word-at2 .ensures,
+  ← c .before .before .before .before .before .before .before .bad-ends .ensures,
+  c .before .before .before .before .before .before .if1 .left,
+  ← c .before .before .before .before .before .word-at3 .ensures,
+  ← c .before .before .before .before .unknown-form .ensures,
+  c .before .before .before .if2 .left,
   ← c .before .before .word-at4 .ensures,
   ← c .before .cost-suits .ensures,
   c .if3 .taken,
 )
 
 returns-4 : tie.Need-returns-4
-unfolding linkRules
+unfolding plainLinkRules
 returns-4 c = simp (
-  ← c .before .before .before .before .before .before .before .before .word-at .ensures,
-  ← c .before .before .before .before .before .before .before .word-at2 .ensures,
-  ← c .before .before .before .before .before .before .bad-ends .ensures,
-  c .before .before .before .before .before .if1 .left,
-  ← c .before .before .before .before .word-at3 .ensures,
-  le-ltb _ _ (c .before .before .before .if2 .left),
+  ← c .before .before .before .before .before .before .before .before .before .word-at .ensures,
+  ← c .before .before .before .before .before .before .before .before .word-at2 .ensures,
+  ← c .before .before .before .before .before .before .before .bad-ends .ensures,
+  c .before .before .before .before .before .before .if1 .left,
+  ← c .before .before .before .before .before .word-at3 .ensures,
+  ← c .before .before .before .before .unknown-form .ensures,
+  c .before .before .before .if2 .left,
   ← c .before .before .word-at4 .ensures,
   ← c .before .cost-suits .ensures,
   c .if3 .left,
@@ -104,6 +109,7 @@ link-rules-spec =
     returns
     add-word-at-3
     word-at-requires-3
+    unknown-form-requires
     returns-2
     add-word-at-4
     word-at-requires-4

@@ -35,18 +35,23 @@ returns-7 c = rw (c .match .keys7)
 
 returns-8 : tie.Need-returns-8
 unfolding lengthOf
-returns-8 c =
+returns-8 c = rw (c .match .keys8)
+
+returns-9 : tie.Need-returns-9
+unfolding lengthOf
+returns-9 c =
     let k = c .before .args .kind in
     simp (
-      ne-eqb k 1 (c .match .rest .0 .0 .0 .0 .0 .0 .1),
-      ne-eqb k 2 (c .match .rest .0 .0 .0 .0 .0 .1),
-      ne-eqb k 3 (c .match .rest .0 .0 .0 .0 .1),
-      ne-eqb k 4 (c .match .rest .0 .0 .0 .1),
-      ne-eqb k 5 (c .match .rest .0 .0 .1),
-      ne-eqb k 6 (c .match .rest .0 .1),
-      ne-eqb k 7 (c .match .rest .1),
+      ne-eqb k 1 (c .match .rest .0 .0 .0 .0 .0 .0 .0 .1),
+      ne-eqb k 2 (c .match .rest .0 .0 .0 .0 .0 .0 .1),
+      ne-eqb k 3 (c .match .rest .0 .0 .0 .0 .0 .1),
+      ne-eqb k 4 (c .match .rest .0 .0 .0 .0 .1),
+      ne-eqb k 5 (c .match .rest .0 .0 .0 .1),
+      ne-eqb k 6 (c .match .rest .0 .0 .1),
+      ne-eqb k 7 (c .match .rest .0 .1),
+      ne-eqb k 8 (c .match .rest .1),
     )
 
 pub length-of-spec : {M : Type 1} → statement M
 length-of-spec =
-    tie.close (tie.spec returns returns-2 returns-3 returns-4 returns-5 returns-6 returns-7 returns-8)
+    tie.close (tie.spec returns returns-2 returns-3 returns-4 returns-5 returns-6 returns-7 returns-8 returns-9)

@@ -29,14 +29,17 @@ add-word-at-4 c = omega arith
 word-at-requires-4 : tie.Need-word-at-requires-4
 word-at-requires-4 c κs = omega arith
 
+guard-at-requires : tie.Need-guard-at-requires
+guard-at-requires c κs = c .before .before .before .before .before .pre
+
 returns : tie.Need-returns
 unfolding linkOf
 returns c = simp (
-  ← c .before .before .before .word-at .ensures,
-  ← c .before .before .word-at2 .ensures,
-  ← c .before .word-at3 .ensures,
-  ←
-      c .word-at4 .ensures,
+  ← c .before .before .before .before .word-at .ensures,
+  ← c .before .before .before .word-at2 .ensures,
+  ← c .before .before .word-at3 .ensures,
+  ← c .before .word-at4 .ensures,
+  ← c .guard-at .ensures,
 )
 
 pub link-at-spec : {M : Type 1} → statement M
@@ -51,4 +54,5 @@ link-at-spec =
     word-at-requires-3
     add-word-at-4
     word-at-requires-4
+    guard-at-requires
     returns)

@@ -14,6 +14,7 @@ use Rattle.file_network.specs.Runs.{records}
 use Rattle.file_network.specs.NetworkFiles.{withLink}
 use Rattle.file_network.specs.Inputs.{networkPart}
 use Rattle.file_network.proofs.Outcomes.{Turn, run-done, run-refused, run-turn, turn-whole}
+use Rattle.file_network.proofs.Links.{link-turn}
 use Rattle.file_network.proofs.Taken.{link-taken}
 use borrow.Author.Needs.{needs}
 use Rattle.file_network.proofs.reader.read_links.Statement.{statement}
@@ -31,7 +32,7 @@ abbrev μ-loop : tie.MeasureT-loop
 due-seen :
     (s : List ℕ) (at : ℕ) (stage : Stage) (n : Network) (e : ℕ) (found : Found) →
     n .elements ≡ e →
-    found ≡ dueAt s (record { elements = e; links = n .links }) at stage →
+    found ≡ dueAt s (record { elements = e; links = n .links; form = n .form }) at stage →
     found ≡ dueAt s (networkSeen n) at stage
 unfolding networkSeen
 due-seen s at stage n e found same due = rw same due
@@ -52,8 +53,8 @@ refused-network-requires c κs = tt
 
 returns : tie.Need-returns Inv-loop μ-loop
 returns c =
-    let args = c .before .before .before .before .before .before .before .before .args in
-    let loop = c .before .before .before .before .before .before .loop in
+    let args = c .before .before .before .before .before .before .before .before .before .args in
+    let loop = c .before .before .before .before .before .before .before .loop in
     let record-due = c .before .before .before .before .record-due in
     c .refused-network .ensures ∙
     ap networkPart
@@ -67,17 +68,22 @@ enum-known-found-2 c = search needs
 -- the record found in a turn
 turn :
     (c : tie.After-known-told2 Inv-loop μ-loop) →
-    Turn (c .before .before .before .before .before .before .before .args .s .now) (c .before .before .before .before .before .loop .at) Links
+    Turn (c .before .before .before .before .before .before .before .before .args .s .now) (c .before .before .before .before .before .before .loop .at) Links
     (c .before .found2 .given .0 .1 .0) (c .before .found2 .given .0 .1 .1 .0)
 turn c =
-    let args = c .before .before .before .before .before .before .before .args in
-    let loop = c .before .before .before .before .before .loop in
+    let args = c .before .before .before .before .before .before .before .before .args in
+    let loop = c .before .before .before .before .before .before .loop in
     turn-whole (args .s .now) (networkSeen (loop .net)) (loop .at) (loop .stage) Links _ _ _ _
     (due-seen (args .s .now) (loop .at) (loop .stage) (loop .net) _ _ (loop .inv .2) (c .before .before .before .record-due .ensures))
     (loop .inv .0) (c .before .found2 .given .1)
 
 link-at-requires : tie.Need-link-at-requires Inv-loop μ-loop
-link-at-requires c κs = let w = turn c in omega arith
+link-at-requires c κs =
+    let args = c .before .before .before .before .before .before .before .before .args in
+    let loop = c .before .before .before .before .before .before .loop in
+    link-turn (args .s .now) (networkSeen (loop .net)) (loop .at) (loop .stage) _ _ _ _
+    (due-seen (args .s .now) (loop .at) (loop .stage) (loop .net) _ _ (loop .inv .2) (c .before .before .before .record-due .ensures))
+    (loop .inv .0) (c .before .found2 .given .1)
 
 mul-net : tie.Need-mul-net Inv-loop μ-loop
 mul-net c = omega arith
@@ -103,6 +109,12 @@ mul-net-4 c = omega arith
 element-write-net-4 : tie.Need-element-write-net-4 Inv-loop μ-loop
 element-write-net-4 c = omega arith
 
+mul-net-5 : tie.Need-mul-net-5 Inv-loop μ-loop
+mul-net-5 c = omega arith
+
+element-write-net-5 : tie.Need-element-write-net-5 Inv-loop μ-loop
+element-write-net-5 c = omega arith
+
 add-net : tie.Need-add-net Inv-loop μ-loop
 add-net c = omega arith
 
@@ -120,8 +132,8 @@ loop-less c = omega arith
 
 loop-again : tie.Need-loop-again Inv-loop μ-loop
 loop-again c =
-    let args = c .before .before .before .before .before .before .before .before .args in
-    let loop = c .before .before .before .before .before .before .loop in
+    let args = c .before .before .before .before .before .before .before .before .before .args in
+    let loop = c .before .before .before .before .before .before .before .loop in
     let record-due = c .before .before .before .before .record-due in
     let w = turn (c .before) in (
       w .next-is,
@@ -164,6 +176,8 @@ read-links-spec =
     element-write-net-3
     mul-net-4
     element-write-net-4
+    mul-net-5
+    element-write-net-5
     add-net
     cast-at
     add-at
