@@ -1,4 +1,4 @@
--- The turns of the other loops: the states that the steps left make, the cost that they add, and the lowest element that is still dark.
+-- The turns of the other loops: the states that the steps left make, and the lowest element that is still dark.
 -- Assumes nothing.
 use mathlib.Core.Path.{_≡_, refl, sym, ap, ap₂, _∙_}
 use mathlib.Core.Bool.{Bool, false, not, _&&_}
@@ -21,7 +21,7 @@ use Rattle.feeding_sets.specs.Sets.{butNot}
 use Rattle.feeding_restoration.proofs.Sets.{set-at, fits}
 use Rattle.plan_form.specs.Printing.{stepsOf}
 use Rattle.judge_marks.specs.Marks.{darkPlace}
-use Rattle.judge_steps.specs.States.{costBy, statesRun}
+use Rattle.judge_steps.specs.States.{statesRun}
 use Rattle.judge_steps.proofs.Front.{stepsLeft, all-left, one-taken, none-left}
 
 -- ---- states
@@ -51,35 +51,6 @@ module _ (p : Plan) (start : List ℕ) where
   pub run-last : (closed : List ℕ) (i : ℕ) → Running p start closed i → p .steps ≤ i → closed ≡ statesRun start (stepsOf p)
   unfolding statesRun
   run-last closed i now k = sym (ap (statesRun closed) (none-left p i k)) ∙ now .rest
-
--- ---- cost
-
--- by the network's list of costs
-pub cost-by : (n : Network) (q : List Step) → costBy (n .cost) q ≡ costOf (netOf n) q
-unfolding costBy costOf netOf
-cost-by n [] = refl
-cost-by n (s ∷ q) = ap (λ (x : ℕ). at (n .cost) (s .link) + x) (cost-by n q)
-
--- the sum so far, and what the steps left cost
-pub record Paid (p : Plan) (cost : List ℕ) (sum i : ℕ) : Type 0 where
-  pub at-most : i ≤ p .steps
-  pub small : sum ≤ 65536 * i
-  pub rest : sum + costBy cost (stepsLeft p i) ≡ costBy cost (stepsOf p)
-
-module _ (p : Plan) (cost : List ℕ) where
-  pub paid-first : (sum : ℕ) → sum ≡ 0 → Paid p cost sum 0
-  paid-first sum e = record { at-most = omega arith; small = omega arith; rest = omega (arith, ap (costBy cost) (all-left p)) }
-
-  pub paid-turn : (sum i : ℕ) → Paid p cost sum i → i < p .steps → at cost (at (p .link) i) < 65536
-      → (sum′ : ℕ) → sum′ ≡ sum + at cost (at (p .link) i) → (j : ℕ) → j ≡ i + 1 → Paid p cost sum′ j
-  unfolding costBy
-  paid-turn sum i now k below sum′ more j next =
-      let step : costBy cost (stepsLeft p i) ≡ at cost (at (p .link) i) + costBy cost (stepsLeft p (i + 1)) = ap (costBy cost) (one-taken p i k) in
-      rw next (record { at-most = omega arith; small = omega arith; rest = omega arith })
-
-  pub paid-last : (sum i : ℕ) → Paid p cost sum i → p .steps ≤ i → sum ≡ costBy cost (stepsOf p)
-  unfolding costBy
-  paid-last sum i now k = let none : costBy cost (stepsLeft p i) ≡ 0 = ap (costBy cost) (none-left p i k) in omega (arith, now .rest)
 
 -- ---- what is still dark
 

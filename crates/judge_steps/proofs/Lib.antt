@@ -1,3 +1,4 @@
 pub mod Front
 pub mod Configurations
 pub mod Following
+pub mod Paying

@@ -2,16 +2,10 @@
 -- Internal: no promise to a user is said by it.
 -- Assumes nothing.
 use mathlib.Core.List.{List, [], _∷_}
-use Prim.Native.Nat.{ℕ, _+_}
+use Prim.Native.Nat.{ℕ}
 use lib.ListN.{set}
 use Rattle.file_writer.specs.Writing.{stateNumber}
-use Rattle.feeding.specs.Networks.{at}
 use Rattle.feeding.specs.Plans.{Step}
-
--- what steps cost by a list of costs
-unfoldable pub costBy : List ℕ → List Step → ℕ
-costBy cost [] = 0
-costBy cost (s ∷ q) = at cost (s .link) + costBy cost q
 
 -- the states after a list of steps
 unfoldable pub statesRun : List ℕ → List Step → List ℕ

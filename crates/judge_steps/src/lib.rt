@@ -3,18 +3,21 @@ use feeding_restoration::joined_to;
 use feeding_sets::except;
 use feeding_start::Start;
 use file_plan::plan::Plan;
+use network::Network;
 ghost use mathlib.Core.Path.{_≡_};
 ghost use Prim.Native.Nat.{_≤_};
 ghost use lib.ListN.{length};
+ghost use Rattle.network.specs.Accepted.{WellFormed};
 ghost use Rattle.file_plan.specs.Accepted.{WellFormedPlan};
 ghost use Rattle.file_writer.specs.Writing.{stateNumber};
 ghost use Rattle.feeding.specs.Below.{lowest};
 ghost use Rattle.feeding.specs.Networks.{netOf, isIn};
+ghost use Rattle.feeding.specs.Costs.{costOf};
 ghost use Rattle.feeding.specs.Parts.{closedIn};
 ghost use Rattle.plan_form.specs.Printing.{stepsOf};
 ghost use Rattle.judge_marks.specs.Marks.{darkPlace};
 ghost use Rattle.feeding_start.specs.Starting.{Begun};
-ghost use Rattle.judge_steps.specs.States.{costBy, statesRun};
+ghost use Rattle.judge_steps.specs.States.{statesRun};
 
 // 1 for closed.
 pub fn state_of(close: bool) -> u8
@@ -42,18 +45,28 @@ pub fn states_after(start: [u8; 96], plan: Plan) -> [u8; 96]
     closed
 }
 
-// The sum of the steps' costs; cost[l] is that of link l.
-pub fn plan_cost(cost: &[u16], plan: Plan) -> u64
-    requires { ⌜ length (now cost) ≡ 96 ⌝ }
-    requires { ⌜ WellFormedPlan 96 plan ⌝ }
-    ensures { λ r. ⌜ r ≡ costBy (now (cost .entry)) (stepsOf plan) ⌝ }
+// The cost of a plan with its guards, in one pass: paid[g] is 1 once the guard g is paid for.
+pub fn plan_cost(net: Network, plan: Plan) -> u64
+    requires { ⌜ WellFormed net ⌝ }
+    requires { ⌜ WellFormedPlan (net .links) plan ⌝ }
+    ensures { λ r. ⌜ r ≡ costOf (netOf net) (stepsOf plan) ⌝ }
 {
+    let cost = net.cost;
+    let guard = net.guard;
+    let mut paid: [u8; 96] = [0; 96];
     let mut sum: u64 = 0;
     let count = plan.steps as usize;
     let mut i: usize = 0;
     while i < count {
         let link = plan.link[i] as usize;
         sum = sum + cost[link] as u64;
+        let g = guard[link] as usize;
+        if g < net.links {
+            if paid[g] == 0 {
+                paid[g] = 1;
+                sum = sum + 2 * (cost[g] as u64);
+            }
+        }
         i += 1;
     }
     sum

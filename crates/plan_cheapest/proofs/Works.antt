@@ -189,6 +189,7 @@ module _ (st : Start) (ok : Searchable st) {sw : Switches} {base : List ℕ} {la
     to = n .to;
     form = n .form;
     cost = n .cost;
+    guard = n .guard;
     elements = n .elements;
     links = n .links;
   }
@@ -205,6 +206,7 @@ module _ (st : Start) (ok : Searchable st) {sw : Switches} {base : List ℕ} {la
     to-long = w .to-long;
     form-long = w .form-long;
     cost-long = w .cost-long;
+    guard-long = w .guard-long;
     load-in = layered .load-in;
     capacity-in = w .capacity-in;
     flags-in = w .flags-in;
@@ -213,6 +215,8 @@ module _ (st : Start) (ok : Searchable st) {sw : Switches} {base : List ℕ} {la
     differ = w .differ;
     form-in = w .form-in;
     cost-in = w .cost-in;
+    guard-in = w .guard-in;
+    guarded = λ l k h. let g = w .guarded l k h in record { switch = g .switch; earlier = g .earlier; guards = g .guards };
     suited = w .suited;
   }
 
