@@ -17,7 +17,7 @@ use Rattle.file_records.proofs.Due.{Framed, Whole, nextAt, longest, goes-one-wa
 use Rattle.file_records.specs.Records.{kindField}
 use Rattle.file_records.proofs.SameBytes.{SameFrom, wide-words, same-on, take-same, append-same}
 use Rattle.file_network.specs.Runs.{Reading, reached, readOn, records, always, asIs}
-use Rattle.file_network.specs.NetworkFiles.{narrowElement, wideElement, elementOf, guardOf, linkOf, withElement, withLink, endOn, endOnBy, linksOn, linksOnBy, elementsOn, elementsOnBy, networkFile, networkFileBy}
+use Rattle.file_network.specs.NetworkFiles.{narrowElement, wideElement, elementOf, guardOf, linkOf, withElement, withLink, endOn, endOnBy, linksOn, linksOnBy, elementsOnBy, networkFile, networkFileBy}
 use Rattle.file_network.specs.Inputs.{closed, networkInput, networkInputBy}
 use Rattle.file_network.proofs.Runs.{run-ends}
 use Rattle.file_network.proofs.Elements.{element-narrow, element-wide}

@@ -19,7 +19,8 @@ use Rattle.file_stages.specs.Stages.{nextStage}
 use Rattle.file_fields.specs.declared.Seen.{Seen}
 use Rattle.file_fields.specs.Fields.{word, lengthOf, headRules, flagsRules, plainLinkRules, guardRules, linkRules, planHeadRules, stepRules, fieldRules}
 use Rattle.file_records.specs.Records.{lengthField, kindField, isRefused, foundBy, frameRules, frameRulesBy, recordRules, recordRulesBy, recordAt, dueAt, dueBy}
-use Rattle.file_records.proofs.Due.{elseFirst, first-append, Framed, longest, of-kind, goes-one-way, not-refused, length-at, frame-kept}
+use Rattle.network.proofs.FirstBroken.{elseFirst, first-append}
+use Rattle.file_records.proofs.Due.{Framed, longest, of-kind, goes-one-way, not-refused, length-at, frame-kept}
 use Rattle.file_records.proofs.SameBytes.{SameFrom, first-word, left-same}
 
 -- How far a record is looked at.

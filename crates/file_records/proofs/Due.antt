@@ -1,8 +1,8 @@
--- What `recordAt` and `dueAt` promise of the record they find or refuse: where no rule of a list is broken, each of its tests is false, and the stage decides which kinds may come and how long they are.
+-- What `recordAt` and `dueAt` promise of the record they find or refuse: each test of its rules is false, and the stage decides which kinds may come and how long they are.
 -- Assumes nothing.
 use mathlib.Core.Path.{_≡_, refl, sym, ap, subst, _∙_}
 use mathlib.Core.Bool.{Bool, true, false, not, _&&_}
-use mathlib.Core.List.{List, [], _∷_, _++_}
+use mathlib.Core.List.{List}
 use mathlib.Core.Logic.{_⊎_, inl, inr}
 use Prim.Native.Nat.{ℕ, _+_, _-_, _<_, _≤_}
 use native.Mathlib.Omega.{arith}
@@ -18,7 +18,7 @@ use Rattle.file_stages.specs.declared.Stage.the-variants.{Head, Elements, Links
 use Rattle.file_stages.specs.declared.Next.{Next}
 use Rattle.file_stages.specs.declared.Next.the-variants.{Go, Refused as Next·Refused}
 use Rattle.file_records.specs.declared.Found.the-variants.{Record, Refused}
-use Rattle.network.specs.Refusals.{pick, firstBroken}
+use Rattle.network.specs.Refusals.{firstBroken}
 pub use Rattle.network.proofs.FirstBroken.{elseFirst, first-append, AllKept, all-kept, first-append-kept}
 use Rattle.file_stages.specs.Stages.{goesTo, nextStage, pick as Next·pick}
 use Rattle.network.specs.Accepted.{suits}
