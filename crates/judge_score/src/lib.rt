@@ -25,8 +25,7 @@ fn score(start: Start, plan: Plan) -> Mark
     requires { ⌜ WellFormedPlan (start .net .links) plan × ValidPlan (netOf (start .net)) (stepsOf plan) ⌝ }
     ensures { λ r. ⌜ r ≡ scored (netOf (start .net)) (stepsOf plan) ⌝ }
 {
-    let costs = start.net.cost;
-    let cost = plan_cost(&costs, plan);
+    let cost = plan_cost(start.net, plan);
     let cheapest = cheapest_cost(start);
     match cheapest {
         Cheapest::Cost(least) => {
