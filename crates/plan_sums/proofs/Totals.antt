@@ -1,11 +1,12 @@
 -- A sum over the elements that pass a test by one element more, and the three sums from the sets that the code makes: each set has the theory's elements.
 -- Assumes nothing.
 use mathlib.Core.Path.{_≡_, ap, ap₂, _∙_}
-use mathlib.Core.Bool.{Bool, true, false, not, _&&_}
+use mathlib.Core.Bool.{Bool, true, false, not, _&&_, and-false}
 use mathlib.Core.List.{List}
 use Prim.Native.Nat.{ℕ, _+_, _*_, _<_, _≤_}
 use native.Mathlib.Numerals.{add-one}
 use native.Mathlib.Omega.{arith}
+use borrow.Author.Tests.{eq-eqb, ne-eqb}
 use Rattle.network.specs.declared.Network.{Network}
 use Rattle.network.specs.Accepted.{WellFormed}
 use Rattle.feeding.specs.Below.{gate, bits}
@@ -31,18 +32,60 @@ module _ (load : ℕ → ℕ) (test : ℕ → Bool) where
   pub load-most : (x : ℕ) → ((e : ℕ) → e < x → load e < 4294967296) → loadOver load test x ≤ 4294967296 * x
   load-most x h = sumTo-below 4294967296 _ x (λ e k. omega (arith, gate-le (test e) (load e), h e k))
 
-  -- what was asked of element x is the test
-  pub load-on : {asked : Bool} (x sum sum′ : ℕ) → asked ≡ true → asked ≡ test x → sum ≡ loadOver load test x → sum′ ≡ sum + load x → sum′ ≡ loadOver load test (x + 1)
-  load-on x sum sum′ on is p q =
-      let more : loadOver load test (x + 1) ≡ loadOver load test x + load x = load-more x ∙ rw (← is, on) in
+  load-on : (x sum sum′ : ℕ) → sum ≡ loadOver load test x → test x ≡ true → sum′ ≡ sum + load x → sum′ ≡ loadOver load test (x + 1)
+  load-on x sum sum′ p on q =
+      let more : loadOver load test (x + 1) ≡ loadOver load test x + load x = load-more x ∙ rw on in
       omega arith
 
-  pub load-off : {asked : Bool} (x sum sum′ : ℕ) → asked ≡ false → asked ≡ test x → sum ≡ loadOver load test x → sum′ ≡ sum → sum′ ≡ loadOver load test (x + 1)
-  load-off x sum sum′ off is p q =
-      let more : loadOver load test (x + 1) ≡ loadOver load test x + 0 = load-more x ∙ rw (← is, off) in
+  load-off : (x sum sum′ : ℕ) → sum ≡ loadOver load test x → test x ≡ false → sum′ ≡ sum → sum′ ≡ loadOver load test (x + 1)
+  load-off x sum sum′ p off q =
+      let more : loadOver load test (x + 1) ≡ loadOver load test x + 0 = load-more x ∙ rw off in
       omega arith
+
+-- of sets as lists: what is asked of element x, in numbers
+
+abbrev pub darkIn : (live restorable : List ℕ) → ℕ → Bool
+darkIn live restorable e = isIn restorable e && not (isIn live e)
+
+abbrev pub lostIn : (restorable : List ℕ) → ℕ → Bool
+lostIn restorable e = not (isIn restorable e)
+
+module _ (load live restorable : List ℕ) (x sum sum′ : ℕ) where
+  pub fed-on : sum ≡ loadOver (at load) (isIn live) x → at live x ≡ 1 → sum′ ≡ sum + at load x → sum′ ≡ loadOver (at load) (isIn live) (x + 1)
+  fed-on p on q = load-on (at load) (isIn live) x sum sum′ p (eq-eqb (at live x) 1 on) q
+
+  pub fed-off : sum ≡ loadOver (at load) (isIn live) x → (at live x ≡ 1 → ⊥) → sum′ ≡ sum → sum′ ≡ loadOver (at load) (isIn live) (x + 1)
+  fed-off p off q = load-off (at load) (isIn live) x sum sum′ p (ne-eqb (at live x) 1 off) q
+
+  pub dark-on : sum ≡ loadOver (at load) (darkIn live restorable) x → at restorable x ≡ 1 → (at live x ≡ 1 → ⊥) → sum′ ≡ sum + at load x
+      → sum′ ≡ loadOver (at load) (darkIn live restorable) (x + 1)
+  dark-on p can off q = load-on (at load) (darkIn live restorable) x sum sum′ p (rw (eq-eqb (at restorable x) 1 can, ne-eqb (at live x) 1 off)) q
+
+  pub dark-live : sum ≡ loadOver (at load) (darkIn live restorable) x → at live x ≡ 1 → sum′ ≡ sum → sum′ ≡ loadOver (at load) (darkIn live restorable) (x + 1)
+  dark-live p on q = load-off (at load) (darkIn live restorable) x sum sum′ p (rw (eq-eqb (at live x) 1 on) (and-false (isIn restorable x))) q
+
+  pub dark-off : sum ≡ loadOver (at load) (darkIn live restorable) x → (at restorable x ≡ 1 → ⊥) → sum′ ≡ sum
+      → sum′ ≡ loadOver (at load) (darkIn live restorable) (x + 1)
+  dark-off p not-can q = load-off (at load) (darkIn live restorable) x sum sum′ p (rw (ne-eqb (at restorable x) 1 not-can)) q
+
+  pub lost-on : sum ≡ loadOver (at load) (lostIn restorable) x → (at restorable x ≡ 1 → ⊥) → sum′ ≡ sum + at load x → sum′ ≡ loadOver (at load) (lostIn restorable) (x + 1)
+  lost-on p not-can q = load-on (at load) (lostIn restorable) x sum sum′ p (rw (ne-eqb (at restorable x) 1 not-can)) q
+
+  pub lost-off : sum ≡ loadOver (at load) (lostIn restorable) x → at restorable x ≡ 1 → sum′ ≡ sum → sum′ ≡ loadOver (at load) (lostIn restorable) (x + 1)
+  lost-off p can q = load-off (at load) (lostIn restorable) x sum sum′ p (rw (eq-eqb (at restorable x) 1 can)) q
 
 -- ---- the three sums
+
+same : {fed dark lost fed′ dark′ lost′ : ℕ} → fed ≡ fed′ → dark ≡ dark′ → lost ≡ lost′
+    → _≡_ {A = Sums} (record { fed = fed; dark = dark; lost = lost }) (record { fed = fed′; dark = dark′; lost = lost′ })
+same a b c = rw (a, b, c)
+
+-- those over the elements below x, where x is n
+pub sums-at : (load : ℕ → ℕ) (live restorable : ℕ → Bool) (x n : ℕ) {fed dark lost : ℕ} → x ≡ n → fed ≡ loadOver load live x
+    → dark ≡ loadOver load (λ e. restorable e && not (live e)) x → lost ≡ loadOver load (λ e. not (restorable e)) x
+    → _≡_ {A = Sums} (record { fed = fed; dark = dark; lost = lost }) (sumsOver load live restorable n)
+unfolding sumsOver
+sums-at load live restorable x n e f d l = rw (← e) (same f d l)
 
 pub sums-ext : (load : ℕ → ℕ) (live live′ restorable restorable′ : ℕ → Bool) (n : ℕ) → ((e : ℕ) → e < n → live e ≡ live′ e)
     → ((e : ℕ) → e < n → restorable e ≡ restorable′ e) → sumsOver load live restorable n ≡ sumsOver load live′ restorable′ n
@@ -54,10 +97,6 @@ sums-ext load live live′ restorable restorable′ n l r = same
   where
     over : (f g : ℕ → Bool) → ((e : ℕ) → e < n → f e ≡ g e) → loadOver load f n ≡ loadOver load g n
     over f g is = sumTo-ext n _ _ (λ e k. ap (λ (b : Bool). gate b (load e)) (is e k))
-
-    same : {fed dark lost fed′ dark′ lost′ : ℕ} → fed ≡ fed′ → dark ≡ dark′ → lost ≡ lost′
-        → _≡_ {A = Sums} (record { fed = fed; dark = dark; lost = lost }) (record { fed = fed′; dark = dark′; lost = lost′ })
-    same a b c = rw (a, b, c)
 
 module _ (n : Network) (w : WellFormed n) (closed live restorable : List ℕ)
     (live-made : live ≡ bits 96 (n .elements) (live? (netOf n .grid) (closedIn closed)))

@@ -1,23 +1,18 @@
 -- `sums_over` meets its contract. The loop's invariant: the three sums are those over the elements below e.
 -- Assumes nothing.
-use mathlib.Core.Path.{_≡_, refl, sym}
-use mathlib.Core.Bool.{Bool, not, _&&_}
-use mathlib.Core.List.{List}
-use mathlib.Core.Logic.{⊎-elim}
-use Prim.Native.Nat.{ℕ, _≤_, _-_}
+use mathlib.Core.Path.{_≡_, sym}
+use mathlib.Core.Logic.{_⊎_, ⊎-elim}
+use Prim.Native.Nat.{_≤_, _-_}
 use native.Mathlib.Omega.{arith}
 use Rattle.feeding.specs.Networks.{at, isIn}
-use Rattle.plan_sums.specs.Sums.{loadOver, sumsOver}
-use Rattle.plan_sums.proofs.Totals.{load-none, load-most, load-on, load-off}
+use Rattle.plan_sums.specs.Sums.{loadOver}
+use Rattle.plan_sums.proofs.Totals.{load-none, load-most, darkIn, lostIn, fed-on, fed-off, dark-on, dark-live, dark-off, lost-on, lost-off, sums-at}
 use Rattle.plan_sums.proofs.sums_over.Statement.{statement}
 use Rattle.plan_sums.proofs.sums_over.Tie as tie
 
--- what the definition asks of an element for dark and for lost
-abbrev darkIn : (live restorable : List ℕ) → ℕ → Bool
-darkIn live restorable e = isIn restorable e && not (isIn live e)
-
-abbrev lostIn : (restorable : List ℕ) → ℕ → Bool
-lostIn restorable e = not (isIn restorable e)
+-- the elements that a test leaves out first: a chain of tests leaves out too many
+left-out : {A B C : Type 0} → (B → C) → (A → C) → A ⊎ B → C
+left-out off on = ⊎-elim on off
 
 abbrev Inv-loop : tie.InvT-loop
 Inv-loop load live restorable count fed₀ dark₀ lost₀ e₀ fed dark lost e =
@@ -69,9 +64,9 @@ add-fed c =
 
 add-dark : tie.Need-add-dark Inv-loop μ-loop
 add-dark c =
-    let pre· = c .before .before .before .before .before .before .before .pre in
-    let loop· = c .before .before .before .before .before .before .loop in
-    let args· = c .before .before .before .before .before .before .before .args in
+    let pre· = c .before .before .before .before .before .before .before .before .pre in
+    let loop· = c .before .before .before .before .before .before .before .loop in
+    let args· = c .before .before .before .before .before .before .before .before .args in
     let below = pre· .load-in (loop· .e) (omega arith) in
     let most = load-most (at (args· .load .now)) (darkIn (args· .live .now) (args· .restorable .now)) (loop· .e) (λ i k. pre· .load-in i (omega arith)) in
     omega arith
@@ -97,29 +92,32 @@ loop-again : tie.Need-loop-again Inv-loop μ-loop
 loop-again c =
     let args· = c .before .before .before .before .before .before .before .before .args in
     let loop· = c .before .before .before .before .before .before .before .loop in
-    let load = at (args· .load .now) in
-    let dark = darkIn (args· .live .now) (args· .restorable .now) in (
+    let load = args· .load .now in
+    let live = args· .live .now in
+    let restorable = args· .restorable .now in
+    let e = loop· .e in (
       omega arith,
       ⊎-elim
-          (λ w. load-on load (isIn (args· .live .now)) (loop· .e) (loop· .fed) _ (w .0 .taken) refl (loop· .inv .1) (omega arith))
-          (λ w. load-off load (isIn (args· .live .now)) (loop· .e) (loop· .fed) _ (w .0 .left) refl (loop· .inv .1) (omega arith))
+          (λ w. fed-on load live restorable e (loop· .fed) _ (loop· .inv .1) (omega arith) (omega arith))
+          (λ w. fed-off load live restorable e (loop· .fed) _ (loop· .inv .1) (omega arith) (omega arith))
           (c .before .before .if1 .came),
       ⊎-elim
-          (λ w. load-on load dark (loop· .e) (loop· .dark) _ (w .0 .taken) refl (loop· .inv .2) (omega arith))
-          (λ w. load-off load dark (loop· .e) (loop· .dark) _ (w .0 .left) refl (loop· .inv .2) (omega arith))
+          (λ w. dark-on load live restorable e (loop· .dark) _ (loop· .inv .2) (omega arith) (omega arith) (omega arith))
+          (⊎-elim
+          (λ w. dark-live load live restorable e (loop· .dark) _ (loop· .inv .2) (omega arith) (omega arith))
+          (λ w. dark-off load live restorable e (loop· .dark) _ (loop· .inv .2) (omega arith) (omega arith)))
           (c .before .if2 .came),
-      ⊎-elim
-          (λ w. load-on load (lostIn (args· .restorable .now)) (loop· .e) (loop· .lost) _ (w .0 .taken) refl (loop· .inv .3) (omega arith))
-          (λ w. load-off load (lostIn (args· .restorable .now)) (loop· .e) (loop· .lost) _ (w .0 .left) refl (loop· .inv .3) (omega arith))
-          (c .if3 .came),
+      left-out
+          (λ w. lost-off load live restorable e (loop· .lost) _ (loop· .inv .3) (omega arith) (omega arith))
+          (λ w. lost-on load live restorable e (loop· .lost) _ (loop· .inv .3) (omega arith) (omega arith))
+          (c .if4 .came),
     )
 
 returns : tie.Need-returns Inv-loop μ-loop
-unfolding sumsOver
 returns c =
     let loop· = c .before .loop in
-    let all : loop· .e ≡ c .before .before .args .count = omega arith in
-    rw (loop· .inv .1, loop· .inv .2, loop· .inv .3, all)
+    let args· = c .before .before .args in
+    sums-at (at (args· .load .now)) (isIn (args· .live .now)) (isIn (args· .restorable .now)) (loop· .e) _ (omega arith) (loop· .inv .1) (loop· .inv .2) (loop· .inv .3)
 
 pub sums-over-spec : {M : Type 1} → statement M
 sums-over-spec =
