@@ -1,7 +1,7 @@
 -- The sums that are computed are those that the papers ask for, and no others are: a sum of loads does not hang on which test tells its elements.
 -- Assumes nothing.
 use mathlib.Core.Path.{_≡_, refl, sym, ap, _∙_}
-use mathlib.Core.Bool.{Bool, true, false, not, _&&_, false≢true}
+use mathlib.Core.Bool.{Bool, true, false, not, _&&_}
 use Prim.Native.Nat.{ℕ, _+_, _<_, _≤_}
 use native.Mathlib.Omega.{arith}
 use Rattle.feeding.specs.Below.{gate, sumTo}
@@ -11,10 +11,10 @@ use Rattle.feeding.specs.Safety.{Safe}
 use Rattle.feeding.specs.Restoration.{FixedClosed, restorable?, totalLoad}
 use Rattle.feeding.proofs.Balance.{live-restorable}
 use Rattle.feeding.proofs.Below.{and-left, and-right, and-both, not-in, not-out}
-use Rattle.feeding.proofs.Sums.{sumTo-add, sumTo-ext}
+use Rattle.feeding.proofs.Sums.{sumTo-add, sumTo-ext, sumTo-zero}
 use Rattle.feeding.proofs.Tests.{live?-in, live?-out, restorable?-in, restorable?-out}
 use Rattle.plan_sums.specs.declared.Sums.{Sums}
-use Rattle.plan_sums.specs.Sums.{LoadOf, LoadsOver, FirstLoads, LoadsIn, sumsOver, sumsAfter}
+use Rattle.plan_sums.specs.Sums.{loadOver, LoadOf, LoadsOver, FirstLoads, LoadsIn, sumsOver, sumsAfter}
 
 -- ---- there is one such triple
 
@@ -85,16 +85,18 @@ first-loads net formed c n h =
 
 -- ---- the three add up
 
--- where what is live is restorable, each element has one share
-shares : (load : ℕ → ℕ) (live restorable : ℕ → Bool) (n : ℕ) → ((e : ℕ) → e < n → live e ≡ true → restorable e ≡ true)
-    → sumsOver load live restorable n .fed + sumsOver load live restorable n .dark + sumsOver load live restorable n .lost ≡ sumTo n load
+-- of any sets: each element has one share, and one that is live and not restorable has two
+pub shares : (load : ℕ → ℕ) (live restorable : ℕ → Bool) (n : ℕ)
+    → sumsOver load live restorable n .fed + sumsOver load live restorable n .dark + sumsOver load live restorable n .lost
+    ≡ sumTo n load + loadOver load (λ e. live e && not (restorable e)) n
 unfolding sumsOver
-shares load live restorable n fits =
+shares load live restorable n =
     omega (
       arith,
       sumTo-add n fed dark,
       sumTo-add n (λ e. fed e + dark e) lost,
-      sumTo-ext n (λ e. (fed e + dark e) + lost e) load (λ e k. one e k (live e) refl (restorable e) refl),
+      sumTo-add n load twice,
+      sumTo-ext n (λ e. (fed e + dark e) + lost e) (λ e. load e + twice e) (λ e k. one e (live e) refl (restorable e) refl),
     )
   where
     fed : ℕ → ℕ
@@ -106,19 +108,28 @@ shares load live restorable n fits =
     lost : ℕ → ℕ
     lost e = gate (not (restorable e)) (load e)
 
-    one : (e : ℕ) → e < n → (t : Bool) → live e ≡ t → (u : Bool) → restorable e ≡ u → (fed e + dark e) + lost e ≡ load e
-    one e k true p true q = rw (p, q) (omega arith)
-    one e k false p true q = rw (p, q) (omega arith)
-    one e k false p false q = rw (p, q) (omega arith)
-    one e k true p false q = absurd (false≢true (sym q ∙ fits e k p))
+    twice : ℕ → ℕ
+    twice e = gate (live e && not (restorable e)) (load e)
+
+    one : (e : ℕ) (t : Bool) → live e ≡ t → (u : Bool) → restorable e ≡ u → (fed e + dark e) + lost e ≡ load e + twice e
+    one e true p true q = rw (p, q) (omega arith)
+    one e false p true q = rw (p, q) (omega arith)
+    one e false p false q = rw (p, q) (omega arith)
+    one e true p false q = rw (p, q) (omega arith)
 
 module _ (net : Net) (formed : Formed (net .grid)) (c : Config) (kept : FixedClosed net c) (safe : Safe (net .grid) c) where
+  -- what a safe configuration feeds is restorable
+  none-twice : (n : ℕ) → n ≤ net .grid .E → loadOver (net .grid .load) (λ e. live? (net .grid) c e && not (restorable? net e)) n ≡ 0
+  none-twice n h = sumTo-zero n _ (λ e k. go e (omega arith) (live? (net .grid) c e) refl)
+    where
+      go : (e : ℕ) → e < net .grid .E → (t : Bool) → live? (net .grid) c e ≡ t → gate (t && not (restorable? net e)) (net .grid .load e) ≡ 0
+      go e k false p = refl
+      go e k true p = rw (restorable?-in net formed e k (live-restorable net formed c kept safe e k (live?-out (net .grid) formed c e k p)))
+
   first-shares : (n : ℕ) → n ≤ net .grid .E → (l : Sums) → l ≡ sumsOver (net .grid .load) (live? (net .grid) c) (restorable? net) n
       → l .fed + l .dark + l .lost ≡ sumTo n (net .grid .load)
   first-shares n h l e =
-      ap (λ (m : Sums). m .fed + m .dark + m .lost) e
-      ∙ shares (net .grid .load) (live? (net .grid) c) (restorable? net) n
-      (λ x k t. restorable?-in net formed x (omega arith) (live-restorable net formed c kept safe x (omega arith) (live?-out (net .grid) formed c x (omega arith) t)))
+      ap (λ (m : Sums). m .fed + m .dark + m .lost) e ∙ omega (arith, shares (net .grid .load) (live? (net .grid) c) (restorable? net) n, none-twice n h)
 
   -- of the first n elements, for any n up to E
   pub balance : (n : ℕ) → n ≤ net .grid .E → (l : Sums) → FirstLoads net c n l → l .fed + l .dark + l .lost ≡ sumTo n (net .grid .load)

@@ -4,6 +4,7 @@ use mathlib.Core.Path.{_≡_, ap, ap₂, _∙_}
 use mathlib.Core.Bool.{Bool, true, false, not, _&&_, and-false}
 use mathlib.Core.List.{List}
 use Prim.Native.Nat.{ℕ, _+_, _*_, _<_, _≤_}
+use lib.ListN.{length}
 use native.Mathlib.Numerals.{add-one}
 use native.Mathlib.Omega.{arith}
 use borrow.Author.Tests.{eq-eqb, ne-eqb}
@@ -98,21 +99,36 @@ sums-ext load live live′ restorable restorable′ n l r = same
     over : (f g : ℕ → Bool) → ((e : ℕ) → e < n → f e ≡ g e) → loadOver load f n ≡ loadOver load g n
     over f g is = sumTo-ext n _ _ (λ e k. ap (λ (b : Bool). gate b (load e)) (is e k))
 
-module _ (n : Network) (w : WellFormed n) (closed live restorable : List ℕ)
-    (live-made : live ≡ bits 96 (n .elements) (live? (netOf n .grid) (closedIn closed)))
-    (restorable-made : restorable ≡ bits 96 (n .elements) (restorable? (netOf n))) where
-  pub loads-reach : (m : ℕ) → m ≤ n .elements → LoadsReach (n .load) live restorable m
-  loads-reach m h =
+-- those over one element more
+pub sums-more : (load : ℕ → ℕ) (live restorable : ℕ → Bool) (n : ℕ) (l : Sums) → l ≡ sumsOver load live restorable n
+    → sumsOver load live restorable (n + 1) ≡ record {
+      fed = l .fed + gate (live n) (load n);
+      dark = l .dark + gate (restorable n && not (live n)) (load n);
+      lost = l .lost + gate (not (restorable n)) (load n);
+    }
+unfolding sumsOver
+sums-more load live restorable n l e = rw e (same (load-more load live n) (load-more load (λ x. restorable x && not (live x)) n) (load-more load (λ x. not (restorable x)) n))
+
+module _ (n : Network) (w : WellFormed n) where
+  pub lists-reach : (live restorable : List ℕ) (m : ℕ) → m ≤ n .elements → m ≤ length live → m ≤ length restorable → LoadsReach (n .load) live restorable m
+  lists-reach live restorable m h live-long restorable-long =
       record {
         fit = omega (arith, w .elements-fit);
         load-long = omega (arith, w .load-long, w .elements-fit);
-        live-long = omega (arith, bits-long live _ _ live-made, fits n w);
-        restorable-long = omega (arith, bits-long restorable _ _ restorable-made, fits n w);
+        live-long = live-long;
+        restorable-long = restorable-long;
         load-in = λ e k. w .load-in e (omega arith);
       }
 
-  pub sums-are : sumsOver (at (n .load)) (isIn live) (isIn restorable) (n .elements) ≡ sumsAfter (netOf n) (closedIn closed)
-  unfolding sumsAfter netOf gridOf
-  sums-are = sums-ext (at (n .load)) (isIn live) _ (isIn restorable) _ (n .elements)
-      (λ e k. set-at n w (n .elements) _ live (fits n w) live-made e k)
-      (λ e k. set-at n w (n .elements) _ restorable (fits n w) restorable-made e k)
+  module _ (closed live restorable : List ℕ) (live-made : live ≡ bits 96 (n .elements) (live? (netOf n .grid) (closedIn closed)))
+      (restorable-made : restorable ≡ bits 96 (n .elements) (restorable? (netOf n))) where
+    pub loads-reach : LoadsReach (n .load) live restorable (n .elements)
+    loads-reach =
+        lists-reach live restorable (n .elements) (omega arith)
+        (omega (arith, bits-long live _ _ live-made, fits n w)) (omega (arith, bits-long restorable _ _ restorable-made, fits n w))
+
+    pub sums-are : sumsOver (at (n .load)) (isIn live) (isIn restorable) (n .elements) ≡ sumsAfter (netOf n) (closedIn closed)
+    unfolding sumsAfter netOf gridOf
+    sums-are = sums-ext (at (n .load)) (isIn live) _ (isIn restorable) _ (n .elements)
+        (λ e k. set-at n w (n .elements) _ live (fits n w) live-made e k)
+        (λ e k. set-at n w (n .elements) _ restorable (fits n w) restorable-made e k)

@@ -1,7 +1,6 @@
 -- The sums over all elements: the sets that are handed over have the elements that the definition names.
 -- Assumes nothing.
 use mathlib.Core.Path.{sym, _∙_}
-use native.Mathlib.Omega.{arith}
 use Rattle.feeding_restoration.proofs.Reach.{bits-long, network-joins}
 use Rattle.feeding_start.proofs.Starts.{sound-of, restorable-of, live-after}
 use Rattle.plan_sums.proofs.Totals.{loads-reach, sums-are}
@@ -46,7 +45,7 @@ sums-over-requires c κs =
     let args· = c .before .before .before .before .before .before .before .before .before .before .before .before .before .before .args in
     let pre· = c .before .before .before .before .before .before .before .before .before .before .before .before .before .before .pre in
     let joined-to· = c .before .before .before .joined-to in
-    loads-reach (args· .start .net) (pre· .0 .formed) (args· .closed .now) (joined-to· .result) (args· .start .restorable) (joined-to· .ensures ∙ live-after (args· .start) _ (pre· .0 .made) (pre· .0 .formed) (args· .closed .now)) (restorable-of (args· .start) _ (pre· .0 .made)) _ (omega arith)
+    loads-reach (args· .start .net) (pre· .0 .formed) (args· .closed .now) (joined-to· .result) (args· .start .restorable) (joined-to· .ensures ∙ live-after (args· .start) _ (pre· .0 .made) (pre· .0 .formed) (args· .closed .now)) (restorable-of (args· .start) _ (pre· .0 .made))
 
 returns : tie.Need-returns
 returns c =
