@@ -1,7 +1,7 @@
 -- Document 02, item 3, "The load line in one pass", sentence by sentence. By its contract `sums_over` gives `sumsOver (at load) (isIn live) (isIn restorable) n`
 -- wherever the lists reach over n elements (`LoadsReach`); what is printed for s is `planText s` (Demand1).
 -- Assumes nothing.
-use mathlib.Core.Path.{_≡_, ap, _∙_}
+use mathlib.Core.Path.{_≡_, refl, ap, _∙_}
 use mathlib.Core.Bool.{Bool, not, _&&_}
 use mathlib.Core.List.{List}
 use mathlib.Core.Logic.{_↔_}
@@ -13,13 +13,13 @@ use Rattle.network.specs.declared.Network.{Network}
 use Rattle.network.specs.Accepted.{WellFormed}
 use Rattle.feeding.specs.Below.{gate, sumTo}
 use Rattle.feeding.specs.Networks.{Net, Formed, netOf, gridOf, at, isIn}
-use Rattle.feeding.specs.Parts.{Config, Live}
+use Rattle.feeding.specs.Parts.{Config, Live, live?}
 use Rattle.feeding.specs.Safety.{Safe}
-use Rattle.feeding.specs.Restoration.{FixedClosed, Restorable, totalLoad}
+use Rattle.feeding.specs.Restoration.{FixedClosed, Restorable, restorable?, totalLoad}
 use Rattle.feeding.specs.Plans.{Step, run}
 use Rattle.feeding_acceptance.specs.Reading.{Bytes, AcceptedNetwork}
 use Rattle.plan_sums.specs.declared.Sums.{Sums}
-use Rattle.plan_sums.specs.Sums.{loadOver, LoadsReach, LoadsOver, FirstLoads, sumsOver}
+use Rattle.plan_sums.specs.Sums.{loadOver, LoadsReach, LoadsOver, FirstLoads, sumsOver, sumsAfter}
 use Rattle.plan_sums.proofs.Loads as Loads
 use Rattle.plan_sums.proofs.Totals as Totals
 use Rattle.plan_lines.specs.Lines.{noneLines}
@@ -38,6 +38,11 @@ pub one-more : (load : ℕ → ℕ) (live restorable : ℕ → Bool) (n : ℕ) (
       lost = l .lost + gate (not (restorable n)) (load n);
     }
 one-more = Totals.sums-more
+
+-- what `sums_after` gives for the line is that pass over all E elements
+pub line-at-E : (net : Net) (c : Config) → sumsAfter net c ≡ sumsOver (net .grid .load) (live? (net .grid) c) (restorable? net) (net .grid .E)
+unfolding sumsAfter
+line-at-E net c = refl
 
 -- ---- "Its contract gives all three over the first n elements,": whatever sets L and R the lists tell
 
