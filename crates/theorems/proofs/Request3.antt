@@ -1,7 +1,7 @@
 -- Document 02, item 3, "The load line in one pass", sentence by sentence. By its contract `sums_over` gives `sumsOver (at load) (isIn live) (isIn restorable) n`
 -- wherever the lists reach over n elements (`LoadsReach`); what is printed for s is `planText s` (Demand1).
 -- Assumes nothing.
-use mathlib.Core.Path.{_≡_, refl, ap, _∙_}
+use mathlib.Core.Path.{_≡_, ap, _∙_}
 use mathlib.Core.Bool.{Bool, not, _&&_}
 use mathlib.Core.List.{List}
 use mathlib.Core.Logic.{_↔_}
@@ -10,13 +10,14 @@ use native.Mathlib.Omega.{arith}
 use lib.ListN.{length}
 use borrow.Author.Tests.{eqb-true, eq-eqb}
 use Rattle.network.specs.declared.Network.{Network}
-use Rattle.network.specs.Accepted.{WellFormed}
 use Rattle.feeding.specs.Below.{gate, sumTo}
-use Rattle.feeding.specs.Networks.{Net, Formed, netOf, gridOf, at, isIn}
-use Rattle.feeding.specs.Parts.{Config, Live, live?}
+use Rattle.feeding.specs.Networks.{netOf, gridOf, at, isIn}
+use Rattle.feeding.specs.Parts.{Config, Live}
 use Rattle.feeding.specs.Safety.{Safe}
-use Rattle.feeding.specs.Restoration.{FixedClosed, Restorable, restorable?, totalLoad}
+use Rattle.feeding.specs.Restoration.{FixedClosed, Restorable, totalLoad}
 use Rattle.feeding.specs.Plans.{Step, run}
+use Rattle.feeding.proofs.Views.{formed-net}
+use Rattle.file_refusals.proofs.Reading.{file-formed}
 use Rattle.feeding_acceptance.specs.Reading.{Bytes, AcceptedNetwork}
 use Rattle.plan_sums.specs.declared.Sums.{Sums}
 use Rattle.plan_sums.specs.Sums.{loadOver, LoadsReach, LoadsOver, FirstLoads, sumsOver, sumsAfter}
@@ -38,11 +39,6 @@ pub one-more : (load : ℕ → ℕ) (live restorable : ℕ → Bool) (n : ℕ) (
       lost = l .lost + gate (not (restorable n)) (load n);
     }
 one-more = Totals.sums-more
-
--- what `sums_after` gives for the line is that pass over all E elements
-pub line-at-E : (net : Net) (c : Config) → sumsAfter net c ≡ sumsOver (net .grid .load) (live? (net .grid) c) (restorable? net) (net .grid .E)
-unfolding sumsAfter
-line-at-E net c = refl
 
 -- ---- "Its contract gives all three over the first n elements,": whatever sets L and R the lists tell
 
@@ -66,30 +62,37 @@ asked-of-each = Loads.shares
 
 -- ---- "for any n up to E,"
 
--- of a network n that was read, with lists that tell what is live in a configuration and what is restorable
-module _ (n : Network) (w : WellFormed n) (c : Config) (live restorable : List ℕ) (live-long : n .elements ≤ length live) (restorable-long : n .elements ≤ length restorable)
-    (tells-live : (e : ℕ) → e < n .elements → (at live e ≡ 1) ↔ Live (netOf n .grid) c e)
-    (tells-restorable : (e : ℕ) → e < n .elements → (at restorable e ≡ 1) ↔ Restorable (netOf n) e) where
-  -- what `sums_over` asks holds
-  pub reach-up-to-E : (m : ℕ) → m ≤ n .elements → LoadsReach (n .load) live restorable m
-  reach-up-to-E m h = Totals.lists-reach n w live restorable m h (omega arith) (omega arith)
-
-  pub sums-up-to-E : (m : ℕ) → m ≤ n .elements → FirstLoads (netOf n) c m (sumsOver (at (n .load)) (isIn live) (isIn restorable) m)
-  unfolding netOf gridOf
-  sums-up-to-E m h = first-n (n .load) live restorable _ _ m (λ e k. tells-live e (omega arith)) (λ e k. tells-restorable e (omega arith))
-
--- in every safe configuration that keeps the fixed links closed they add up to the loads of the first n
-module _ (net : Net) (formed : Formed (net .grid)) (c : Config) (kept : FixedClosed net c) (safe : Safe (net .grid) c) where
-  pub add-up : (n : ℕ) → n ≤ net .grid .E → (l : Sums) → FirstLoads net c n l → l .fed + l .dark + l .lost ≡ sumTo n (net .grid .load)
-  add-up = Loads.balance net formed c kept safe
-
-  pub add-up-all : (l : Sums) → FirstLoads net c (net .grid .E) l → l .fed + l .dark + l .lost ≡ totalLoad (net .grid)
-  unfolding totalLoad
-  add-up-all l x = add-up (net .grid .E) (omega arith) l x
-
--- ---- "and no printed byte changes.": the line has the sums over all E elements, and these, however they are made, give the same text
-
 module _ (s : List ℕ) (bytes : Bytes s) (n : Network) (accepted : AcceptedNetwork s n) where
+  -- of an accepted network, with lists that tell what is live in a configuration and what is restorable
+  module _ (c : Config) (live restorable : List ℕ) (live-long : n .elements ≤ length live) (restorable-long : n .elements ≤ length restorable)
+      (tells-live : (e : ℕ) → e < n .elements → (at live e ≡ 1) ↔ Live (netOf n .grid) c e)
+      (tells-restorable : (e : ℕ) → e < n .elements → (at restorable e ≡ 1) ↔ Restorable (netOf n) e) where
+    -- what `sums_over` asks holds
+    pub reach-up-to-E : (m : ℕ) → m ≤ n .elements → LoadsReach (n .load) live restorable m
+    reach-up-to-E m h = Totals.lists-reach n (file-formed s bytes n (accepted .file)) live restorable m h (omega arith) (omega arith)
+
+    pub sums-up-to-E : (m : ℕ) → m ≤ n .elements → FirstLoads (netOf n) c m (sumsOver (at (n .load)) (isIn live) (isIn restorable) m)
+    unfolding netOf gridOf
+    sums-up-to-E m h = first-n (n .load) live restorable _ _ m (λ e k. tells-live e (omega arith)) (λ e k. tells-restorable e (omega arith))
+
+    -- n = E gives the sums of the line, which are those of `sums_after`
+    pub line-at-E : sumsAfter (netOf n) c ≡ sumsOver (at (n .load)) (isIn live) (isIn restorable) (n .elements)
+    unfolding sumsAfter netOf gridOf
+    line-at-E =
+        Loads.loads-same (Loads.first-loads (netOf n) (formed-net n (file-formed s bytes n (accepted .file))) c (n .elements) (omega arith))
+        (sums-up-to-E (n .elements) (omega arith))
+
+  -- in every safe configuration that keeps the fixed links closed they add up to the loads of the first m elements
+  module _ (c : Config) (kept : FixedClosed (netOf n) c) (safe : Safe (netOf n .grid) c) where
+    pub add-up : (m : ℕ) → m ≤ netOf n .grid .E → (l : Sums) → FirstLoads (netOf n) c m l → l .fed + l .dark + l .lost ≡ sumTo m (netOf n .grid .load)
+    add-up = Loads.balance (netOf n) (formed-net n (file-formed s bytes n (accepted .file))) c kept safe
+
+    pub add-up-all : (l : Sums) → FirstLoads (netOf n) c (netOf n .grid .E) l → l .fed + l .dark + l .lost ≡ totalLoad (netOf n .grid)
+    unfolding totalLoad
+    add-up-all l x = add-up (netOf n .grid .E) (omega arith) l x
+
+  -- ---- "and no printed byte changes.": the line has the sums over all E elements, and these, however they are made, give the same text
+
   -- after the plan
   pub plan-line : (q : List Step) (cost : ℕ) (l : Sums) → planText s ≡ planTextOf q cost l → FirstLoads (netOf n) (run (netOf n .startClosed) q) (netOf n .grid .E) l
   plan-line q cost l printed = printed-promises s bytes n accepted q cost l printed .loads .sums
