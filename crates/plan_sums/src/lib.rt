@@ -25,17 +25,17 @@ pub fn sums_over(load: &[u32], live: &[u8], restorable: &[u8], count: usize) -> 
     let mut e: usize = 0;
     while e < count {
         let own = load[e] as u64;
-        let on = live[e];
-        let can = restorable[e];
-        if on == 1 {
+        let is_live = live[e];
+        let is_restorable = restorable[e];
+        if is_live == 1 {
             fed = fed + own;
         }
-        if can == 1 {
-            if on != 1 {
+        if is_restorable == 1 {
+            if is_live != 1 {
                 dark = dark + own;
             }
         }
-        if can != 1 {
+        if is_restorable != 1 {
             lost = lost + own;
         }
         e += 1;

@@ -45,12 +45,12 @@ cast-own c =
     let below = c .before .before .before .pre .load-in (c .before .before .loop .e) (omega arith) in
     omega arith
 
-shared-slice-read-on : tie.Need-shared-slice-read-on Inv-loop μ-loop
-shared-slice-read-on c =
+shared-slice-read-is-live : tie.Need-shared-slice-read-is-live Inv-loop μ-loop
+shared-slice-read-is-live c =
     omega arith
 
-shared-slice-read-can : tie.Need-shared-slice-read-can Inv-loop μ-loop
-shared-slice-read-can c =
+shared-slice-read-is-restorable : tie.Need-shared-slice-read-is-restorable Inv-loop μ-loop
+shared-slice-read-is-restorable c =
     omega arith
 
 add-fed : tie.Need-add-fed Inv-loop μ-loop
@@ -129,8 +129,8 @@ sums-over-spec =
     mul-own
     shared-slice-read-own
     cast-own
-    shared-slice-read-on
-    shared-slice-read-can
+    shared-slice-read-is-live
+    shared-slice-read-is-restorable
     add-fed
     add-dark
     add-lost
