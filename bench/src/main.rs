@@ -2,6 +2,7 @@
 //! times, the stack they need.
 mod differential;
 mod library;
+mod lines;
 mod stack;
 mod timing;
 
@@ -11,7 +12,7 @@ use std::process::ExitCode;
 const SEED: u64 = 2026;
 const COUNT: usize = 250_000;
 const EXAMPLES: &str = concat!(env!("CARGO_MANIFEST_DIR"), "/../examples");
-const USAGE: &str = "bench differential [SEED [COUNT]] | time [SEED] | stack [EXAMPLES]";
+const USAGE: &str = "bench differential [SEED [COUNT]] | time [SEED] | lines [SEED] | stack [EXAMPLES]";
 
 fn number(arguments: &[String], at: usize, usual: u64) -> Result<u64, String> {
     match arguments.get(at) {
@@ -26,6 +27,10 @@ fn run(arguments: &[String]) -> Result<(), String> {
         "differential" => differential::run(number(rest, 0, SEED)?, number(rest, 1, COUNT as u64)? as usize),
         "time" => {
             timing::run(number(rest, 0, SEED)?);
+            Ok(())
+        }
+        "lines" => {
+            lines::run(number(rest, 0, SEED)?);
             Ok(())
         }
         "stack" => stack::run(Path::new(rest.first().map_or(EXAMPLES, String::as_str))),

@@ -144,7 +144,7 @@ module _ (g : Grid) (formed : Formed g) (c : Config) (l : ℕ) where
 
     -- the grid as a network: what `joined-radial` speaks of
     net : Net
-    net = record { grid = g; fixed = λ _. false; startClosed = c; cost = λ _. 0 }
+    net = record { grid = g; fixed = λ _. false; startClosed = c; cost = λ _. 0; guard = λ _. g .K }
 
     -- rules 14 to 16 ask nothing of the loads
     pub joins-radial : Radial g c → Joins g c l → Radial g (put c l true)

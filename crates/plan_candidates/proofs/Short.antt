@@ -1,6 +1,6 @@
 -- Where all sources together bear less than all restorable elements ask, no set works.
 -- Assumes nothing.
-use mathlib.Core.Path.{_≡_, sym, ap, _∙_}
+use mathlib.Core.Path.{_≡_, sym, ap, ap₂, _∙_}
 use mathlib.Core.Bool.{Bool, true, false}
 use Prim.Native.Nat.{ℕ, _<_, _≤_}
 use native.Mathlib.Omega.{arith}
@@ -8,8 +8,8 @@ use lib.Dec.{ltb}
 use borrow.Author.Tests.{ltb-true, le-ltb, lt-ltb}
 use Rattle.network.specs.declared.Network.{Network}
 use Rattle.network.specs.Accepted.{WellFormed}
-use Rattle.feeding.specs.Below.{gate, sumTo}
-use Rattle.feeding.specs.Networks.{netOf, gridOf, at, isIn}
+use Rattle.feeding.specs.Below.{gate}
+use Rattle.feeding.specs.Networks.{netOf, gridOf, at}
 use Rattle.feeding.proofs.Sums.{sumTo-ext}
 use Rattle.feeding.proofs.Views.{formed-net}
 use Rattle.feeding_restoration.proofs.Sets.{set-at, fits}
@@ -21,7 +21,7 @@ use Rattle.feeding_start.specs.Starting.{operableIn, Searchable}
 use Rattle.feeding_start.proofs.Starts.{sound-of, restorable-of}
 use Rattle.plan_stops.specs.Supply.{ownAsk, demand, supply}
 use Rattle.plan_supply.specs.Supply.{askOf, demandIn, Asking}
-use Rattle.plan_sums.specs.Sums.{LoadsReach}
+use Rattle.plan_supply.proofs.Adding.{ask-small}
 use Rattle.feeding.specs.Costs.{setCost}
 use Rattle.plan_stops.proofs.Demand.{short-none}
 use Rattle.plan_candidates.specs.Candidates.{asksOf}
@@ -35,12 +35,13 @@ module _ (st : Start) (ok : Searchable st) where
   w = ok .formed
 
   -- what the calls ask
-  pub supply-reach : LoadsReach (n .capacity) (st .sound) (n .elements)
+  pub supply-reach : Asking (st .sound) (n .capacity) (n .capacity) (n .elements)
   supply-reach = record {
     fit = w .elements-fit;
-    load-long = omega (arith, w .capacity-long, w .elements-fit);
     has-long = omega (arith, bits-long _ _ _ (sound-of st _ (ok .made)), w .elements-fit);
-    load-in = w .capacity-in;
+    load-long = omega (arith, w .capacity-long, w .elements-fit);
+    capacity-long = omega (arith, w .capacity-long, w .elements-fit);
+    load-in = λ e k. omega (arith, w .capacity-in e k);
   }
 
   pub demand-reach : Asking (st .restorable) (n .load) (n .capacity) (n .elements)
@@ -57,12 +58,14 @@ module _ (st : Start) (ok : Searchable st) where
   demand-is = sumTo-ext (n .elements) _ _ (λ e k.
       ap (λ (b : Bool). gate b (askOf (at (n .load) e) (at (n .capacity) e))) (set-at n w (n .elements) _ (st .restorable) (fits n w) (restorable-of st _ (ok .made)) e k))
 
-  supply-is : sumTo (n .elements) (λ e. gate (isIn (st .sound) e) (at (n .capacity) e)) ≡ supply (netOf n .grid)
-  unfolding supply netOf gridOf
-  supply-is = sumTo-ext (n .elements) _ _ (λ e k. ap (λ (b : Bool). gate b (at (n .capacity) e)) (sources-at st ok e k))
+  -- a source that is loaded to its capacity asks what it bears
+  supply-is : demandIn (st .sound) (n .capacity) (n .capacity) (n .elements) ≡ supply (netOf n .grid)
+  unfolding demandIn supply netOf gridOf
+  supply-is = sumTo-ext (n .elements) _ _ (λ e k.
+      ap₂ gate (sources-at st ok e k) (sym (ask-small (at (n .capacity) e) (at (n .capacity) e) (omega arith))))
 
   module _ {asked borne : ℕ} (asked-is : asked ≡ demandIn (st .restorable) (n .load) (n .capacity) (n .elements))
-      (borne-is : borne ≡ sumTo (n .elements) (λ e. gate (isIn (st .sound) e) (at (n .capacity) e))) where
+      (borne-is : borne ≡ demandIn (st .sound) (n .capacity) (n .capacity) (n .elements)) where
     pub too-little : borne < asked → true ≡ ltb (supply (netOf n .grid)) (demand (netOf n) (asksOf (netOf n)))
     too-little h = sym (lt-ltb (supply (netOf n .grid)) (demand (netOf n) (asksOf (netOf n))) (omega (arith, asked-is, borne-is, demand-is, supply-is)))
 

@@ -8,7 +8,6 @@ use plan_holdings::waiting_parts;
 use plan_search::seek;
 use plan_setting::charged;
 use plan_setting::packed_setting;
-use plan_sums::load_of;
 use plan_supply::demand_of;
 use plan_supply::spare_of;
 use plan_switches::Switches;
@@ -42,7 +41,8 @@ pub fn falls_short(start: Start) -> bool
     let sound = start.sound;
     let restorable = start.restorable;
     let asked = demand_of(&restorable, &load, &capacity, start.net.elements);
-    let borne = load_of(&capacity, &sound, start.net.elements);
+    // A source that is loaded to its capacity asks what it bears.
+    let borne = demand_of(&sound, &capacity, &capacity, start.net.elements);
     if borne < asked {
         return true;
     }

@@ -15,8 +15,10 @@ use Rattle.feeding.specs.Acceptance.{Starts}
 use Rattle.feeding.specs.Networks.{netOf, gridOf}
 use Rattle.feeding.specs.Plans.{Step, printedForm, run}
 use Rattle.feeding.specs.Costs.{costOf, setCost}
-use Rattle.feeding.proofs.Balance.{balance}
-use Rattle.feeding.proofs.Views.{formed-net, fixed-closed, plan-balance}
+use Rattle.feeding.specs.Restoration.{Operable}
+use Rattle.feeding.proofs.Balance.{fixed-kept}
+use Rattle.feeding.proofs.Printed.{run-safe}
+use Rattle.feeding.proofs.Views.{formed-net, fixed-closed}
 use Rattle.feeding_acceptance.specs.Reading.{acceptedRead, Bytes, AcceptedNetwork, FirstRule}
 use Rattle.feeding_acceptance.proofs.Promises.{Admits, input-admission, network-starts}
 use Rattle.feeding_acceptance.proofs.Promises as Admissions
@@ -130,7 +132,9 @@ module _ (n : Network) (well : WellFormed n) (starts : Starts (netOf n)) where
       promised = subst (λ (x : List Step). Promised (netOf n) x (costOf (netOf n) q)) back
           (subst (Promised (netOf n) q) (promise .own) promise);
       loads = subst (λ (x : List Step). LoadsIn (netOf n) (run (netOf n .startClosed) x) (sumsAfter (netOf n) (run (netOf n .startClosed) q))) back
-          (sums-in (netOf n) (formed-net n well) (run (netOf n .startClosed) q) (plan-balance n well (starts .safe) q (promise .valid .good)));
+          (sums-in (netOf n) (formed-net n well) (run (netOf n .startClosed) q)
+          (fixed-kept (netOf n) (Operable (netOf n)) (λ l o. o .switch) (fixed-closed n) q (promise .valid .good))
+          (run-safe (netOf n) (Operable (netOf n)) (netOf n .startClosed) q (starts .safe) (promise .valid .good)));
     }
       where
         back : q ≡ stepsOf (planWith emptyPlan q)
@@ -143,8 +147,7 @@ module _ (n : Network) (well : WellFormed n) (starts : Starts (netOf n)) where
           net = n;
           accepted = accepts;
           no-plan = promise;
-          loads = sums-in (netOf n) (formed-net n well) (netOf n .startClosed)
-              (balance (netOf n) (formed-net n well) (netOf n .startClosed) (fixed-closed n) (starts .safe));
+          loads = sums-in (netOf n) (formed-net n well) (netOf n .startClosed) (fixed-closed n) (starts .safe);
         })
     choice-kept (chosen D) promise =
         plan-outcome s _ (planWith emptyPlan (printedForm (netOf n) D))

@@ -1,20 +1,16 @@
 -- What was found, as arrays, gives the outcome that its plan has: sums see the states of the network's links only.
 -- Assumes nothing.
-use mathlib.Core.Path.{_≡_, sym, ap, ap₂, _∙_}
-use mathlib.Core.Bool.{Bool, not, _&&_}
+use mathlib.Core.Path.{_≡_, refl, sym, ap₂, _∙_}
 use mathlib.Core.List.{List}
 use Prim.Native.Nat.{ℕ, _<_, _≤_}
 use native.Mathlib.Omega.{arith}
 use lib.ListN.{length}
 use borrow.Author.Tests.{lt-ltb, le-ltb}
 use Rattle.network.specs.declared.Network.{Network}
-use Rattle.feeding.specs.Below.{gate}
 use Rattle.feeding.specs.Networks.{Net, gridOf, netOf}
 use Rattle.feeding.specs.Parts.{Config, closedIn}
 use Rattle.feeding.specs.Plans.{Step, run}
-use Rattle.feeding.specs.Restoration.{restorable?, fedLoad, darkLoad, lostLoad}
 use Rattle.feeding.proofs.States.{live-same}
-use Rattle.feeding.proofs.Sums.{sumTo-ext}
 use Rattle.file_plan.specs.declared.plan.Plan.{Plan}
 use Rattle.file_plan.specs.PlanFiles.{emptyPlan}
 use Rattle.plan_problem.specs.Choosing.{Planning, unplanned, by}
@@ -22,6 +18,7 @@ use Rattle.plan_form.specs.Printing.{planWith}
 use Rattle.plan_form.proofs.Steps.{with-count, empty-steps}
 use Rattle.plan_sums.specs.declared.Sums.{Sums}
 use Rattle.plan_sums.specs.Sums.{sumsAfter}
+use Rattle.plan_sums.proofs.Totals.{sums-ext}
 use Rattle.plan_found.specs.declared.Found.{Found}
 use Rattle.plan_found.specs.Finding.{costFound, planFound, lastFound, FoundBy}
 use Rattle.plan_outcome.specs.declared.Outcome.{Outcome}
@@ -31,12 +28,8 @@ use Rattle.plan_outcome.specs.Outcomes.{outcomeWith, outcomeWithout, out
 -- ---- sums see the states of the network's links only
 
 pub sums-same : (net : Net) (c c′ : Config) → ((l : ℕ) → l < net .grid .K → c l ≡ c′ l) → sumsAfter net c ≡ sumsAfter net c′
-unfolding sumsAfter fedLoad darkLoad
-sums-same net c c′ same =
-    ap₂ (λ (f d : ℕ). record { fed = f; dark = d; lost = lostLoad net })
-    (sumTo-ext (net .grid .E) _ _ (λ e _. ap (λ (b : Bool). gate b (net .grid .load e)) (live-same (net .grid) c c′ same e)))
-    (sumTo-ext (net .grid .E) _ _
-    (λ e _. ap (λ (b : Bool). gate (restorable? net e && not b) (net .grid .load e)) (live-same (net .grid) c c′ same e)))
+unfolding sumsAfter
+sums-same net c c′ same = sums-ext (net .grid .load) _ _ _ _ (net .grid .E) (λ e _. live-same (net .grid) c c′ same e) (λ e _. refl)
 
 -- ---- the two cases of what was found
 

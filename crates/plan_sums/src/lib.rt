@@ -1,14 +1,12 @@
 // The three sums of the LOAD line: loads of live elements, of restorable elements that are dark, and of elements that are not restorable.
 use feeding_restoration::joined_to;
-use feeding_sets::except;
 use feeding_start::Start;
 ghost use mathlib.Core.Path.{_≡_};
 ghost use lib.ListN.{length};
-ghost use Rattle.feeding.specs.Below.{sumTo, gate};
 ghost use Rattle.feeding.specs.Networks.{netOf, at, isIn};
 ghost use Rattle.feeding.specs.Parts.{closedIn};
 ghost use Rattle.feeding_start.specs.Starting.{Begun};
-ghost use Rattle.plan_sums.specs.Sums.{LoadsReach, sumsAfter};
+ghost use Rattle.plan_sums.specs.Sums.{LoadsReach, sumsOver, sumsAfter};
 
 pub struct Sums {
     pub fed: u64,
@@ -16,20 +14,33 @@ pub struct Sums {
     pub lost: u64,
 }
 
-// The loads of those of the first elements that are in the set.
-pub fn load_of(load: &[u32], has: &[u8], count: usize) -> u64
-    requires { ⌜ LoadsReach (now load) (now has) count ⌝ }
-    ensures { λ r. ⌜ r ≡ sumTo count (λ e. gate (isIn (now (has .entry)) e) (at (now (load .entry)) e)) ⌝ }
+// The three sums over the first elements, in one pass; each sum asks every element for itself.
+pub fn sums_over(load: &[u32], live: &[u8], restorable: &[u8], count: usize) -> Sums
+    requires { ⌜ LoadsReach (now load) (now live) (now restorable) count ⌝ }
+    ensures { λ r. ⌜ r ≡ sumsOver (at (now (load .entry))) (isIn (now (live .entry))) (isIn (now (restorable .entry))) count ⌝ }
 {
-    let mut sum: u64 = 0;
-    let mut x: usize = 0;
-    while x < count {
-        if has[x] == 1 {
-            sum = sum + load[x] as u64;
+    let mut fed: u64 = 0;
+    let mut dark: u64 = 0;
+    let mut lost: u64 = 0;
+    let mut e: usize = 0;
+    while e < count {
+        let own = load[e] as u64;
+        let is_live = live[e];
+        let is_restorable = restorable[e];
+        if is_live == 1 {
+            fed = fed + own;
         }
-        x += 1;
+        if is_restorable == 1 {
+            if is_live != 1 {
+                dark = dark + own;
+            }
+        }
+        if is_restorable != 1 {
+            lost = lost + own;
+        }
+        e += 1;
     }
-    sum
+    Sums { fed, dark, lost }
 }
 
 // The sums in a configuration; closed[l] is 1 for a closed link.
@@ -45,11 +56,5 @@ pub fn sums_after(start: Start, closed: &[u8]) -> Sums
     let sound = start.sound;
     let restorable = start.restorable;
     let live = joined_to(&from, &to, closed, &sound, net.elements, net.links);
-    let waiting = except(&restorable, &live, net.elements);
-    let all: [u8; 96] = [1; 96];
-    let others = except(&all, &restorable, net.elements);
-    let fed = load_of(&load, &live, net.elements);
-    let dark = load_of(&load, &waiting, net.elements);
-    let lost = load_of(&load, &others, net.elements);
-    Sums { fed, dark, lost }
+    sums_over(&load, &live, &restorable, net.elements)
 }

@@ -29,33 +29,37 @@ demand-of-requires c κs =
     let pre· = c .before .before .before .before .before .before .before .pre in
     demand-reach (args· .start) pre·
 
-slice-aggregate-load-of : tie.Need-slice-aggregate-load-of
-slice-aggregate-load-of c =
+slice-aggregate-demand-of-4 : tie.Need-slice-aggregate-demand-of-4
+slice-aggregate-demand-of-4 c =
     search needs
 
-slice-aggregate-load-of-2 : tie.Need-slice-aggregate-load-of-2
-slice-aggregate-load-of-2 c =
+slice-aggregate-demand-of-5 : tie.Need-slice-aggregate-demand-of-5
+slice-aggregate-demand-of-5 c =
     search needs
 
-load-of-requires : tie.Need-load-of-requires
-load-of-requires c κs =
-    let args· = c .before .before .before .before .before .before .before .before .before .before .args in
-    let pre· = c .before .before .before .before .before .before .before .before .before .before .pre in
+slice-aggregate-demand-of-6 : tie.Need-slice-aggregate-demand-of-6
+slice-aggregate-demand-of-6 c =
+    search needs
+
+demand-of-requires-2 : tie.Need-demand-of-requires-2
+demand-of-requires-2 c κs =
+    let args· = c .before .before .before .before .before .before .before .before .before .before .before .args in
+    let pre· = c .before .before .before .before .before .before .before .before .before .before .before .pre in
     supply-reach (args· .start) pre·
 
 returns : tie.Need-returns
 returns c =
-    let args· = c .before .before .before .before .before .before .before .before .before .before .before .before .args in
-    let pre· = c .before .before .before .before .before .before .before .before .before .before .before .before .pre in
-    let demand-of· = c .before .before .before .before .demand-of in
-    too-little (args· .start) pre· (demand-of· .ensures) (c .before .load-of .ensures) (omega (arith, (c .if1)))
+    let args· = c .before .before .before .before .before .before .before .before .before .before .before .before .before .args in
+    let pre· = c .before .before .before .before .before .before .before .before .before .before .before .before .before .pre in
+    let demand-of· = c .before .before .before .before .before .demand-of in
+    too-little (args· .start) pre· (demand-of· .ensures) (c .before .demand-of2 .ensures) (omega (arith, (c .if1)))
 
 returns-2 : tie.Need-returns-2
 returns-2 c =
-    let args· = c .before .before .before .before .before .before .before .before .before .before .before .before .args in
-    let pre· = c .before .before .before .before .before .before .before .before .before .before .before .before .pre in
-    let demand-of· = c .before .before .before .before .demand-of in
-    sufficient (args· .start) pre· (demand-of· .ensures) (c .before .load-of .ensures) (omega (arith, (c .if1)))
+    let args· = c .before .before .before .before .before .before .before .before .before .before .before .before .before .args in
+    let pre· = c .before .before .before .before .before .before .before .before .before .before .before .before .before .pre in
+    let demand-of· = c .before .before .before .before .before .demand-of in
+    sufficient (args· .start) pre· (demand-of· .ensures) (c .before .demand-of2 .ensures) (omega (arith, (c .if1)))
 
 pub falls-short-spec : {M : Type 1} → statement M
 falls-short-spec =
@@ -65,8 +69,9 @@ falls-short-spec =
     slice-aggregate-demand-of-2
     slice-aggregate-demand-of-3
     demand-of-requires
-    slice-aggregate-load-of
-    slice-aggregate-load-of-2
-    load-of-requires
+    slice-aggregate-demand-of-4
+    slice-aggregate-demand-of-5
+    slice-aggregate-demand-of-6
+    demand-of-requires-2
     returns
     returns-2)
