@@ -22,20 +22,37 @@ pub fn guard(r: &mut Random, draft: &mut Draft) {
         unfix(r, draft);
     }
     let (guards, one_of) = (guards(r, draft), r.pick(&[1, 1, 2, 3]));
+    assign(r, draft, &guards, one_of);
+    price(r, draft);
+}
+
+/// Gives guards to all switches but the first.
+pub fn guard_all(r: &mut Random, draft: &mut Draft) {
+    let switches = switches(draft);
+    let guards = if r.one_in(2) { vec![switches[0]] } else { switches };
+    assign(r, draft, &guards, 1);
+    price(r, draft);
+}
+
+/// Gives some of these guards to one of so many switches behind them; at times always the last one before a switch.
+fn assign(r: &mut Random, draft: &mut Draft, guards: &[usize], one_of: usize) {
     let chained = r.one_in(5);
-    for link in 0..draft.links.len() {
-        let earlier = guards.iter().copied().filter(|&guard| guard < link).collect::<Vec<_>>();
-        if draft.links[link].is_switch() && !earlier.is_empty() && r.one_in(one_of) {
-            let guard = if chained { earlier[earlier.len() - 1] } else { r.pick(&earlier) };
+    for link in switches(draft) {
+        let earlier = guards.partition_point(|&guard| guard < link);
+        if earlier > 0 && r.one_in(one_of) {
+            let guard = if chained { guards[earlier - 1] } else { r.pick(&guards[..earlier]) };
             draft.links[link].guard = Some(guard);
         }
     }
-    price(r, draft);
+}
+
+fn switches(draft: &Draft) -> Vec<usize> {
+    (0..draft.links.len()).filter(|&link| draft.links[link].is_switch()).collect()
 }
 
 /// The switches that may be guards: any, one to three of them, or those that are operable or aren't.
 fn guards(r: &mut Random, draft: &Draft) -> Vec<usize> {
-    let switches: Vec<usize> = (0..draft.links.len()).filter(|&link| draft.links[link].is_switch()).collect();
+    let switches = switches(draft);
     let operable = independent::start(&draft.file()).map_or(0, |start| start.operable);
     let is_operable = |link: usize| operable >> link & 1 == 1;
     match r.below(8) {

@@ -26,6 +26,7 @@ pub mod record_damage;
 pub mod records;
 pub mod regions;
 pub mod spanning;
+pub mod switched;
 pub mod tried;
 pub mod wide;
 pub mod widening;
