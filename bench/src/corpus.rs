@@ -11,7 +11,7 @@ use crate::tried;
 use std::path::Path;
 
 const SEED: u64 = 20_261_117;
-const BRIEF: usize = 2430;
+const BRIEF: usize = 2300;
 const MIDDLE: usize = 100;
 const TWELVE: usize = 40;
 const LARGE: usize = 24;

@@ -28,5 +28,6 @@ pub mod regions;
 pub mod spanning;
 pub mod switched;
 pub mod tried;
+mod tried_guards;
 pub mod wide;
 pub mod widening;
