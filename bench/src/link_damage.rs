@@ -28,19 +28,29 @@ pub fn damage_link(r: &mut Random, file: &mut Vec<u8>) {
     }
     let guard = bad_guard(r, file, &found, number);
     let Some(record) = made_guarded(file, record, guard) else { return };
-    match r.below(16) {
-        0..3 => put(file, record.start + FORM, r.pick(&[0, 0, 3, 4, 256, 65_535])),
-        3..5 => put(file, record.start + COST, 0),
-        5..7 => {
+    match r.below(20) {
+        0..4 => fix_guard(file, &found, record.start),
+        4..7 => put(file, record.start + FORM, r.pick(&[0, 0, 3, 4, 256, 65_535])),
+        7..9 => put(file, record.start + COST, 0),
+        9..11 => {
             put(file, record.start + GUARD, guard);
             put(file, record.start + r.pick(&[FORM, COST]), 0);
         }
-        7..12 => put(file, record.start + GUARD, guard),
-        12..14 => {
+        11..16 => put(file, record.start + GUARD, guard),
+        16..18 => {
             let elements = elements(file);
             put_for(r, file, record, &elements);
         }
         _ => cut_off(r, file, record, PLAIN.1),
+    }
+}
+
+/// Makes a fixed link of the guard that a switch has, if that is an earlier link without a guard.
+fn fix_guard(file: &mut [u8], found: &[Range<usize>], at: usize) {
+    let guard = found.get(word(file, at + GUARD) as usize).filter(|guard| guard.start < at);
+    if let Some(guard) = guard.filter(|guard| (word(file, guard.start + 2), guard.len() as u16) == PLAIN) {
+        put(file, guard.start + FORM, FIXED);
+        put(file, guard.start + COST, 0);
     }
 }
 
