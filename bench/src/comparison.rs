@@ -54,7 +54,7 @@ fn any(r: &mut Random) -> Draft {
     inputs::network(r)
 }
 
-/// Both print the same for an item once narrow elements are rewritten as wide ones, if it passes rules 1 to 13.
+/// Both print the same for an item once narrow elements are rewritten as wide ones, if it passes rules 1 to 13 and 20.
 fn same_when_widened(r: &mut Random, item: &Item, answers: &Answers) -> Result<(), String> {
     let wider = Item { network: widening::widened(r, &item.network), plans: item.plans.clone() };
     let others = Answers::of(&wider)?;

@@ -11,14 +11,14 @@ use crate::tried;
 use std::path::Path;
 
 const SEED: u64 = 20_261_117;
-const BRIEF: usize = 2430;
+const BRIEF: usize = 2300;
 const MIDDLE: usize = 100;
 const TWELVE: usize = 40;
 const LARGE: usize = 24;
 const LONGEST: usize = 6;
 
-/// Every kind of reply and of mark occurs at least so often: in all, with wide elements, and rules at a wide element.
-const LEAST: Each<u64> = [50, 25, 12];
+/// Every kind of reply and of mark occurs at least so often in each group.
+const LEAST: Each<u64> = [50, 25, 12, 25, 12, 50];
 /// At least so many networks have as many operable switches as there may be.
 const LEAST_TWELVE: usize = 50;
 /// So many items are drawn at most for kinds that are too rare.

@@ -1,9 +1,12 @@
 //! How often each kind of reply and mark occurred.
 use std::collections::BTreeMap;
-use std::fmt;
 
 const PLANNER: &str = "planner";
 const JUDGE: &str = "judge";
+const PROGRAMS: [&str; 2] = [PLANNER, JUDGE];
+
+/// The kinds that have a cost.
+pub const COSTS: [&str; 3] = ["planner PLAN", "judge VALID cheapest", "judge VALID dearer"];
 
 #[derive(Default)]
 pub struct Counts(BTreeMap<String, u64>);
@@ -25,20 +28,23 @@ impl Counts {
         self.0.get(kind).copied().unwrap_or(0)
     }
 
-    /// The kinds of reply and mark that occurred less often than that.
-    pub fn fewer_than(&self, least: u64) -> Vec<String> {
-        [PLANNER, JUDGE].into_iter().flat_map(kinds).filter(|kind| self.of(kind) < least).collect()
-    }
-
-    /// How often either program refused by each of these rules.
-    pub fn refusals<'a>(&'a self, rules: &'a [u64]) -> impl Iterator<Item = (String, u64)> + 'a {
-        let refusal = |program| move |rule: &u64| format!("{program} REFUSED {rule}");
-        let kinds = [PLANNER, JUDGE].into_iter().flat_map(move |program| rules.iter().map(refusal(program)));
-        kinds.map(|kind| (kind.clone(), self.of(&kind)))
+    /// Those of some kinds that occurred less often than that.
+    pub fn fewer_than(&self, kinds: &[String], least: u64) -> Vec<String> {
+        kinds.iter().filter(|kind| self.of(kind) < least).cloned().collect()
     }
 
     pub fn has_any(&self, kinds: &[String]) -> bool {
         kinds.iter().any(|kind| self.of(kind) > 0)
+    }
+
+    /// How often each of these kinds occurred, on a line for each program.
+    pub fn lines(&self, kinds: &[String]) -> String {
+        let line = |program: &str| {
+            let own = kinds.iter().filter_map(|kind| Some((kind.strip_prefix(program)?, self.of(kind))));
+            let listed: Vec<String> = own.map(|(name, count)| format!("{}: {count}", name.trim_start())).collect();
+            format!("{program}: {}\n", listed.join(", "))
+        };
+        PROGRAMS.map(line).concat()
     }
 }
 
@@ -55,24 +61,28 @@ fn kind(text: &[u8]) -> String {
     }
 }
 
+/// All kinds that there are.
+pub fn all_kinds() -> Vec<String> {
+    PROGRAMS.into_iter().flat_map(kinds).collect()
+}
+
 /// All kinds that a program has. A planner reads no plan, so rules 10 to 12 are the judge's alone.
 fn kinds(program: &str) -> Vec<String> {
     let (words, rules): (&[&str], Vec<u64>) = if program == PLANNER {
-        (&["PLAN", "NONE"], (1..=9).chain(13..=18).collect())
+        (&["PLAN", "NONE"], (1..=9).chain(13..=18).chain([20]).collect())
     } else {
-        (&["VALID cheapest", "VALID dearer", "SHORT", "BROKEN 1", "BROKEN 2", "BROKEN 3"], (1..=18).collect())
+        let marks = &["VALID cheapest", "VALID dearer", "SHORT", "BROKEN 1", "BROKEN 2", "BROKEN 3"];
+        (marks, (1..=18).chain([20]).collect())
     };
-    let refusals = rules.iter().map(|rule| format!("{program} REFUSED {rule}"));
+    let refusals = rules.iter().map(|&rule| refusal(program, rule));
     words.iter().map(|word| format!("{program} {word}")).chain(refusals).collect()
 }
 
-impl fmt::Display for Counts {
-    fn fmt(&self, f: &mut fmt::Formatter) -> fmt::Result {
-        for program in [PLANNER, JUDGE] {
-            let line = |kind: &String| format!("{}: {}", &kind[program.len() + 1..], self.of(kind));
-            let listed: Vec<String> = kinds(program).iter().map(line).collect();
-            writeln!(f, "{program}: {}", listed.join(", "))?;
-        }
-        Ok(())
-    }
+fn refusal(program: &str, rule: u64) -> String {
+    format!("{program} REFUSED {rule}")
+}
+
+/// The refusals of either program by these rules.
+pub fn refusals(rules: &[u64]) -> Vec<String> {
+    PROGRAMS.into_iter().flat_map(|program| rules.iter().map(move |&rule| refusal(program, rule))).collect()
 }

@@ -1,5 +1,6 @@
 //! Damaged inputs.
 use crate::element_damage::damage_element;
+use crate::link_damage::damage_link;
 use crate::random::Random;
 use crate::records::{records, records_of};
 use std::ops::Range;
@@ -20,9 +21,10 @@ fn damage(r: &mut Random, file: &mut Vec<u8>) {
     match r.below(100) {
         0..8 => change_byte(r, file),
         8..14 => change_word(r, file),
-        14..48 => change_field(r, file),
-        48..58 => damage_element(r, file),
-        58..67 => file.truncate(r.below(file.len())),
+        14..41 => change_field(r, file),
+        41..50 => damage_element(r, file),
+        50..60 => damage_link(r, file),
+        60..67 => file.truncate(r.below(file.len())),
         67..74 => append(r, file),
         74..79 => drop_record(r, file),
         79..84 => double_record(r, file),
@@ -59,7 +61,7 @@ fn any_record(r: &mut Random, file: &[u8]) -> Range<usize> {
 
 /// A record of a kind drawn first, so that heads are drawn as often as links and steps more often.
 fn record_of_a_kind(r: &mut Random, file: &[u8]) -> Range<usize> {
-    let kind = r.pick(&[1, 2, 3, 3, 5, 6, 6, 7]);
+    let kind = r.pick(&[1, 2, 3, 3, 5, 6, 6, 7, 8]);
     let found = records_of(file, kind);
     if found.is_empty() {
         return any_record(r, file);
@@ -83,7 +85,7 @@ fn change_front(r: &mut Random, file: &mut [u8], field: usize) {
     if at + 2 > file.len() {
         return;
     }
-    let number = r.pick(&[0, 1, 2, 3, 4, 5, 6, 7, 7, 8, 10, 12, 14, 256, 258, 263, 65535]);
+    let number = r.pick(&[0, 1, 2, 3, 4, 5, 6, 7, 7, 8, 8, 9, 10, 12, 14, 256, 258, 263, 264, 65535]);
     file[at..at + 2].copy_from_slice(&u16::to_le_bytes(number));
 }
 

@@ -3,6 +3,7 @@
 use crate::library;
 use bench::coverage::{listed, Coverage, Each};
 use bench::draft::plan_file;
+use bench::guarded;
 use bench::hard;
 use bench::independent::{self, Mark, Reply};
 use bench::inputs::input;
@@ -20,9 +21,9 @@ const MORE: usize = 200;
 /// What values hold before a call: a number that no reply has, so that one left unwritten shows.
 const UNWRITTEN: u64 = u64::MAX;
 
-/// Of so many inputs, every kind of reply and mark must occur, with wide elements too.
+/// Of so many inputs, every kind of reply and mark must occur, with wide elements and with guarded switches too.
 const ENOUGH: usize = 20_000;
-const LEAST: Each<u64> = [1, 1, 1];
+const LEAST: Each<u64> = [1; 6];
 /// One input of so many is compared once more with narrow elements rewritten as wide ones.
 const WIDENED: usize = 4;
 
@@ -88,7 +89,8 @@ fn compare_widened(input: &[u8], wider: &[u8], room: usize) -> Result<(), Differ
 /// A network that is hard to plan, or one with good steps behind it, for the judge.
 fn hard_input(r: &mut Random) -> Vec<u8> {
     let draft = hard::any(r);
-    let mut file = wide::mixed(r, draft).file();
+    let draft = wide::mixed(r, draft);
+    let mut file = guarded::mixed(r, draft).file();
     if r.one_in(2) {
         if let Ok(accepted) = independent::accept(&file) {
             file.extend(plan_file(&plans::good(r, &accepted, plans::MOST, false)));

@@ -24,6 +24,14 @@ pub struct Link {
     pub ends: (usize, usize),
     pub form: u16,
     pub cost: u16,
+    /// the link that is its guard, if it has one
+    pub guard: Option<usize>,
+}
+
+impl Link {
+    pub fn is_switch(&self) -> bool {
+        self.form != FIXED
+    }
 }
 
 pub const FIXED: u16 = 0;
@@ -44,21 +52,19 @@ impl Draft {
 
     /// A link; a fixed one costs nothing whatever is given.
     pub fn add_link(&mut self, ends: (usize, usize), form: u16, cost: u16) {
-        self.links.push(Link { ends, form, cost: if form == FIXED { 0 } else { cost } });
+        self.links.push(Link { ends, form, cost: if form == FIXED { 0 } else { cost }, guard: None });
     }
 
     pub fn file(&self) -> Vec<u8> {
         let mut file = vec![];
         put(&mut file, &[8, 1, self.elements.len() as u16, self.links.len() as u16]);
         self.elements.iter().for_each(|element| put_element(&mut file, element));
-        for l in &self.links {
-            put(&mut file, &[12, 3, l.ends.0 as u16, l.ends.1 as u16, l.form, l.cost]);
-        }
+        self.links.iter().for_each(|link| put_link(&mut file, link));
         put(&mut file, &[4, 4]);
         file
     }
 
-    /// The same network with other numbers for its elements and links.
+    /// The same network with other numbers for its elements and links, none of which has a guard yet.
     pub fn renumbered(mut self, r: &mut Random) -> Draft {
         let mut place: Vec<usize> = (0..self.elements.len()).collect();
         r.shuffle(&mut place);
@@ -91,6 +97,13 @@ pub fn put_element(file: &mut Vec<u8>, element: &Element) {
     file.extend(&element.load.to_le_bytes()[..width]);
     file.extend(&element.capacity.to_le_bytes()[..width]);
     put(file, &[element.flags]);
+}
+
+/// A link's record: a guard comes last.
+fn put_link(file: &mut Vec<u8>, link: &Link) {
+    let (length, kind) = if link.guard.is_some() { (14, 8) } else { (12, 3) };
+    put(file, &[length, kind, link.ends.0 as u16, link.ends.1 as u16, link.form, link.cost]);
+    link.guard.iter().for_each(|&guard| put(file, &[guard as u16]));
 }
 
 fn put(file: &mut Vec<u8>, numbers: &[u16]) {

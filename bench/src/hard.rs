@@ -1,6 +1,7 @@
 //! Large networks that are hard to plan: the sources suffice in all and every element bears its own load, so it
 //! mostly takes a search to decide.
 use crate::draft::Draft;
+use crate::guarded;
 use crate::independent::{self, Reply};
 use crate::plot::{Plot, Style};
 use crate::random::Random;
@@ -53,6 +54,13 @@ pub fn network(r: &mut Random, tight: Tight, costs: Costs, short: bool) -> Draft
     if costs == Costs::Late {
         return late(draft);
     }
+    draft
+}
+
+/// A network that may have a plan, all switches but the first of which have guards.
+pub fn guarded(r: &mut Random, tight: Tight, costs: Costs) -> Draft {
+    let mut draft = network(r, tight, costs, false);
+    guarded::guard_all(r, &mut draft);
     draft
 }
 

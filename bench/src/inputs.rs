@@ -2,6 +2,7 @@
 use crate::brim;
 use crate::damage::{damaged, random_bytes};
 use crate::draft::{plan_file, Draft};
+use crate::guarded;
 use crate::heavy;
 use crate::independent::ELEMENTS;
 use crate::longest;
@@ -17,22 +18,27 @@ pub const LONGEST: usize = 12_000;
 /// A network of any shape.
 pub fn network(r: &mut Random) -> Draft {
     let draft = match r.below(40) {
-        0 => return brim::network(r),
-        1 => return heavy::network(r, ELEMENTS),
-        2..12 => regions::network(r),
-        _ => networks::network(r),
+        0 => brim::network(r),
+        1 => heavy::network(r, ELEMENTS),
+        2..12 => widened(r, regions::network),
+        _ => widened(r, networks::network),
     };
-    wide::mixed(r, draft)
+    guarded::mixed(r, draft)
 }
 
 /// A small network of any shape that can be small.
 pub fn brief(r: &mut Random) -> Draft {
     let draft = match r.below(40) {
-        0 => return brim::network(r),
-        1 => return heavy::network(r, 6),
-        2..12 => regions::brief(r),
-        _ => networks::brief(r),
+        0 => brim::network(r),
+        1 => heavy::network(r, 6),
+        2..12 => widened(r, regions::brief),
+        _ => widened(r, networks::brief),
     };
+    guarded::mixed(r, draft)
+}
+
+fn widened(r: &mut Random, network: fn(&mut Random) -> Draft) -> Draft {
+    let draft = network(r);
     wide::mixed(r, draft)
 }
 
@@ -97,7 +103,8 @@ fn either(r: &mut Random, network: fn(&mut Random) -> Draft) -> Vec<u8> {
 fn large(r: &mut Random) -> Vec<u8> {
     let kind = r.pick(&[Kind::SmallElement, Kind::SmallSources, Kind::Planned, Kind::Planned]);
     let draft = networks::large(r, kind);
-    let file = wide::mixed(r, draft).file();
+    let draft = wide::mixed(r, draft);
+    let file = guarded::mixed(r, draft).file();
     if r.one_in(2) {
         return behind(r, file);
     }

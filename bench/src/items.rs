@@ -1,6 +1,7 @@
 //! Networks with several submitted plans each, good and damaged.
 use crate::damage::damaged;
 use crate::draft::{plan_file, Draft};
+use crate::guarded;
 use crate::hard;
 use crate::independent;
 use crate::inputs::brief_input;
@@ -81,5 +82,6 @@ fn whole(r: &mut Random) -> Item {
 pub fn large(r: &mut Random) -> Draft {
     let kind = r.pick(&[Kind::SmallElement, Kind::SmallSources, Kind::Planned]);
     let draft = if r.one_in(2) { hard::any(r) } else { networks::large(r, kind) };
-    wide::mixed(r, draft)
+    let draft = wide::mixed(r, draft);
+    guarded::mixed(r, draft)
 }

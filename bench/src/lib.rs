@@ -1,6 +1,7 @@
 //! An independent planner and judge, an exhaustive enumeration written apart, and random inputs for comparing them
 //! with the proved ones.
 pub mod brim;
+pub mod charged;
 pub mod comparison;
 pub mod corpus;
 pub mod counts;
@@ -9,19 +10,24 @@ pub mod damage;
 pub mod draft;
 pub mod element_damage;
 pub mod enumeration;
+pub mod guarded;
 pub mod hard;
 pub mod heavy;
 pub mod independent;
 pub mod inputs;
 pub mod items;
+pub mod link_damage;
 pub mod longest;
 pub mod networks;
 pub mod plans;
 pub mod plot;
 pub mod random;
+pub mod record_damage;
 pub mod records;
 pub mod regions;
 pub mod spanning;
+pub mod switched;
 pub mod tried;
+mod tried_guards;
 pub mod wide;
 pub mod widening;

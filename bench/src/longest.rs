@@ -1,20 +1,29 @@
 //! Inputs of the most elements, links and steps: the longest that are accepted, and some that are longer.
 use crate::draft::{plan_file, Draft};
+use crate::guarded;
 use crate::independent::{ELEMENTS, LINKS};
 use crate::networks::{self, Kind};
 use crate::plans::{self, Step, MOST};
 use crate::random::Random;
+use crate::switched;
 use crate::wide;
 
-/// All elements but three at most are wide; there is a plan that closes a switch.
+/// Often the longest there is: all elements are wide, and all links behind the first guarded switches. Else up to three
+/// elements are narrow and up to three switches unguarded, or there are fixed links. There is a plan that closes a
+/// switch.
 pub fn network(r: &mut Random) -> Draft {
     loop {
-        let mut draft = networks::large(r, Kind::Planned);
+        let mut draft = if r.one_in(4) { networks::large(r, Kind::Planned) } else { switched::network(r) };
         if r.one_in(2) {
             wide::enlarge(r, &mut draft);
         }
         draft.elements.iter_mut().for_each(|element| element.wide = true);
-        (0..r.below(4)).for_each(|_| draft.elements[r.below(ELEMENTS)].wide = false);
+        guarded::guard_all(r, &mut draft);
+        for _ in 0..r.pick(&[0, 0, 0, 1, 2, 3]) {
+            draft.elements[r.below(ELEMENTS)].wide = false;
+            let link = r.below(draft.links.len());
+            draft.links[link].guard = None;
+        }
         let closes = plans::printed(&draft.file()).iter().any(|step| step.1 == 1);
         if draft.links.len() == LINKS && closes {
             return draft;

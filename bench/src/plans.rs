@@ -116,9 +116,11 @@ pub fn full(r: &mut Random, mut steps: Vec<Step>) -> Vec<Step> {
     steps
 }
 
-/// An operable switch there and back, somewhere in the plan.
+/// An operable switch there and back, somewhere in the plan; often one with a guard, if there is one.
 fn detour(r: &mut Random, accepted: &Accepted, steps: &mut Vec<Step>) {
-    let operable: Vec<usize> = independent::bits(accepted.start.operable).collect();
+    let (any, guarded) = (accepted.start.operable, accepted.network.guarded & accepted.start.operable);
+    let drawn = if guarded != 0 && r.one_in(2) { guarded } else { any };
+    let operable: Vec<usize> = independent::bits(drawn).collect();
     if !operable.is_empty() {
         let (link, at) = (r.pick(&operable), r.below(steps.len() + 1));
         let at_start = (accepted.network.closed >> link & 1) as u16;

@@ -211,6 +211,18 @@ fn sum(groups: [Times; 4]) -> Times {
     groups.into_iter().reduce(|all, group| all.and(group)).expect("four groups")
 }
 
+/// Each kind with a plan and with guards; all of them together.
+fn measure_guarded(r: &mut Random) -> Times {
+    let measure_kind = |(name, tight)| {
+        let networks = hardest(r, true, |r| {
+            let costs = r.pick(&[Costs::Mixed, Costs::Equal, Costs::Late]);
+            hard::guarded(r, tight, costs)
+        });
+        measure(&format!("hardest, with guards, {name}"), "plan", PLANNERS, &networks)
+    };
+    sum(TIGHT.map(measure_kind))
+}
+
 fn measure_judge(r: &mut Random) -> Times {
     let full = measure("judge, large, valid, 254 or 255 steps", "mark", JUDGES, &judged(r, longest));
     let good = measure("judge, large, 20 to 200 good steps", "mark", JUDGES, &judged(r, any_good));
@@ -226,6 +238,7 @@ pub fn run(seed: u64) {
     let random = measure("random networks", "plan", PLANNERS, &random_networks(&mut r));
     let (hard, planned) = (measure_hard(&mut r), measure_planned(&mut r));
     let judge = measure_judge(&mut r);
-    let [random, hard, planned, judge] = [random, hard, planned, judge].map(Times::ratio);
-    println!("ratio random={random:.2} hard={hard:.2} planned={planned:.2} judge={judge:.2}");
+    let guarded = measure_guarded(&mut r);
+    let [random, hard, planned, judge, guarded] = [random, hard, planned, judge, guarded].map(Times::ratio);
+    println!("ratio random={random:.2} hard={hard:.2} planned={planned:.2} judge={judge:.2} guarded={guarded:.2}");
 }

@@ -1,10 +1,11 @@
-//! The tried networks of document 01 and such with wide elements, with what the documents say of them.
+//! The tried networks of document 01 and such with wide elements or guards, with what the documents say of them.
 use crate::draft::{plan_file, Draft, CLOSED, FIXED, OPEN};
 use crate::enumeration::{mark_text, plan_text};
 use crate::random::Random;
+use crate::tried_guards;
 use crate::widening::widened;
 
-fn network_b() -> Draft {
+pub fn network_b() -> Draft {
     let mut draft = Draft::default();
     for (load, capacity, flags) in [(0, 5, 1), (2, 9, 0), (1, 9, 2), (3, 9, 0), (0, 3, 1)] {
         draft.add_element(load, capacity, flags);
@@ -16,7 +17,7 @@ fn network_b() -> Draft {
     draft
 }
 
-fn network_d() -> Draft {
+pub fn network_d() -> Draft {
     let mut draft = Draft::default();
     for (load, capacity, flags) in [(0, 2, 1), (2, 9, 0), (2, 9, 0), (0, 2, 1)] {
         draft.add_element(load, capacity, flags);
@@ -38,7 +39,7 @@ fn star(buses: usize) -> Draft {
     draft
 }
 
-fn changed(mut draft: Draft, change: impl Fn(&mut Draft)) -> Draft {
+pub fn changed(mut draft: Draft, change: impl Fn(&mut Draft)) -> Draft {
     change(&mut draft);
     draft
 }
@@ -136,15 +137,18 @@ fn marks() -> Vec<(Draft, Vec<(usize, u16)>, &'static str)> {
 pub fn check() -> Result<(), String> {
     let r = &mut Random::new(1);
     let mut tried = vec![(plan_text(&[]), "REFUSED 1 0\n")];
-    for (network, said) in replies().into_iter().chain(wide_replies()) {
+    for (network, said) in replies().into_iter().chain(wide_replies()).chain(tried_guards::replies()) {
         tried.push((plan_text(&network.file()), said));
         tried.push((plan_text(&widened(r, &network.file())), said));
     }
-    tried.extend(edited().into_iter().map(|(bytes, said)| (plan_text(&bytes), said)));
-    for (network, steps, said) in marks() {
+    let edited = edited().into_iter().chain(tried_guards::edited());
+    tried.extend(edited.map(|(bytes, said)| (plan_text(&bytes), said)));
+    for (network, steps, said) in marks().into_iter().chain(tried_guards::marks()) {
         let input = [network.file(), plan_file(&steps)].concat();
         tried.push((mark_text(&input), said));
-        tried.push((mark_text(&widened(r, &input)), said));
+        if !said.starts_with("REFUSED") {
+            tried.push((mark_text(&widened(r, &input)), said));
+        }
     }
     match tried.iter().find(|(printed, said)| !printed.starts_with(said)) {
         Some((printed, said)) => Err(format!("the documents say\n{said}and the enumeration\n{printed}")),

@@ -1,10 +1,10 @@
-//! Narrow elements rewritten as wide ones, which changes no printed line of a file that passes rules 1 to 13.
+//! Narrow elements rewritten as wide ones, which changes no printed line of a file that passes rules 1 to 13 and 20.
 use crate::draft::{put_element, Element};
 use crate::random::Random;
 use crate::records::{records, word, NARROW_ELEMENT};
 
-/// The last rule whose place is an offset.
-const LAST_OFFSET: u64 = 13;
+/// The rules whose place is no offset, as far as programs print them.
+const PASSED: std::ops::RangeInclusive<u64> = 14..=18;
 
 /// The input with all or some of its narrow elements as wide ones of the same numbers.
 pub fn widened(r: &mut Random, input: &[u8]) -> Vec<u8> {
@@ -28,10 +28,10 @@ fn wide(record: &[u8]) -> Element {
     Element { load, capacity, flags, wide: true }
 }
 
-/// Whether what was printed for an input says that it passes rules 1 to 13.
+/// Whether what was printed for an input says that it passes rules 1 to 13 and 20.
 pub fn passes(printed: &str) -> bool {
     let words: Vec<&str> = printed.split_whitespace().collect();
-    words[0] != "REFUSED" || words[1].parse::<u64>().is_ok_and(|rule| rule > LAST_OFFSET)
+    words[0] != "REFUSED" || words[1].parse::<u64>().is_ok_and(|rule| PASSED.contains(&rule))
 }
 
 /// An error where a file that passes is printed something else for once it is widened.

@@ -1,5 +1,6 @@
 //! The mark of a submitted plan, step by step.
 use super::configuration::Configuration;
+use super::price::price;
 use super::reach::least_cost;
 use super::reader::Step;
 use super::safety::is_safe;
@@ -23,7 +24,7 @@ pub fn mark(start: &Start, steps: &[Step]) -> Mark {
     if let Some(element) = start.lowest_dark(&configuration) {
         return Mark::Short { element };
     }
-    let cost: u64 = steps.iter().map(|step| start.cost(step.link)).sum();
+    let cost = price(&start.network, steps.iter().map(|step| step.link));
     let least = least_cost(start, &Table::of(start)).expect("the submitted plan is valid, so there is a least cost");
     Mark::Valid { cost, excess: cost.checked_sub(least).expect("no valid plan costs less than the least cost") }
 }

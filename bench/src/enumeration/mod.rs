@@ -1,5 +1,5 @@
-//! Planner and judge by exhaustive enumeration, from bytes to printed bytes: document 01 and item 1 of document
-//! 02 taken word by word, and slow.
+//! Planner and judge by exhaustive enumeration, from bytes to printed bytes: document 01 and items 1 and 2 of
+//! document 02 taken word by word, and slow.
 //!
 //! It shares no code and no law with `independent`. That every sequence of operations costs at least what the printed
 //! plan does is not used but tested: the planner panics where it fails.
@@ -7,7 +7,9 @@ mod configuration;
 mod flood;
 mod judge;
 mod network;
+mod operation;
 mod planner;
+mod price;
 mod reach;
 mod reader;
 mod records;

@@ -24,6 +24,8 @@ pub struct Link {
     pub ends: [usize; 2],
     pub form: Form,
     pub cost: u64,
+    /// the link that is its guard, if it has one
+    pub guard: Option<usize>,
 }
 
 impl Link {

@@ -1,5 +1,6 @@
 //! The printed plan, by walking the printed form of every set of operable switches.
 use super::configuration::{live, Configuration};
+use super::price::price;
 use super::reach::least_cost;
 use super::start::Start;
 use super::table::{Set, Switch, Table};
@@ -44,9 +45,9 @@ fn valid_plan(start: &Start, table: &Table, set: Set) -> Option<Plan> {
     let is_closed = |switch: &Switch| start.configuration.is_closed(switch.link);
     let (openings, closings): (Vec<Switch>, Vec<Switch>) = table.members(set).partition(is_closed);
     let links = |switches: &[Switch]| switches.iter().map(|switch| switch.link).collect();
-    let cost = table.members(set).map(|switch| start.cost(switch.link)).sum();
+    let cost = || price(&start.network, table.members(set).map(|switch| switch.link));
     let valid = is_valid(table, openings.iter().chain(&closings));
-    valid.then(|| Plan { openings: links(&openings), closings: links(&closings), cost })
+    valid.then(|| Plan { openings: links(&openings), closings: links(&closings), cost: cost() })
 }
 
 /// Whether operating these one after the other passes safe configurations only and restores everything.

@@ -1,4 +1,4 @@
-//! Network files and plan files: rules 5 to 12, each within its record.
+//! Network files and plan files: rules 5 to 12 and 20, each within its record.
 use super::network::{Element, Form, Link, Network};
 use super::records::{Kind, Record, Records};
 use super::refusal::Refusal;
@@ -10,9 +10,11 @@ const END: Kind = Kind { number: 4, length: 4 };
 const PLAN_HEAD: Kind = Kind { number: 5, length: 6 };
 const STEP: Kind = Kind { number: 6, length: 8 };
 const WIDE_ELEMENT: Kind = Kind { number: 7, length: 14 };
+const GUARDED_SWITCH: Kind = Kind { number: 8, length: 14 };
 
-/// The kinds that may come where an element is due.
+/// The kinds that may come where an element is due, and where a link is.
 const ELEMENTS: [Kind; 2] = [NARROW_ELEMENT, WIDE_ELEMENT];
+const LINKS: [Kind; 2] = [LINK, GUARDED_SWITCH];
 
 const MOST_ELEMENTS: u64 = 64;
 const MOST_LINKS: u64 = 96;
@@ -48,8 +50,11 @@ fn network_file(records: &mut Records) -> Result<Network, Refusal> {
     head.refuse_if(elements < 1 || MOST_ELEMENTS < elements || MOST_LINKS < links, 5)?;
     let read_elements: Result<_, _> = (0..elements).map(|_| element(records.next(&ELEMENTS)?)).collect();
     let read_elements = read_elements?;
-    let read_links: Result<_, _> = (0..links).map(|_| link(records.next(&[LINK])?, elements)).collect();
-    let read_links = read_links?;
+    let mut read_links = vec![];
+    for _ in 0..links {
+        let link = link(records.next(&LINKS)?, elements, &read_links)?;
+        read_links.push(link);
+    }
     records.next(&[END])?;
     Ok(Network::new(read_elements, read_links))
 }
@@ -62,13 +67,23 @@ fn element(record: Record) -> Result<Element, Refusal> {
     Ok(Element { load, capacity, source: flags == 1 || flags == 3, faulty: flags == 2 || flags == 3 })
 }
 
-fn link(record: Record, elements: u64) -> Result<Link, Refusal> {
+/// A link with those that come before it in the file.
+fn link(record: Record, elements: u64, earlier: &[Link]) -> Result<Link, Refusal> {
     let (one, other, form, cost) = (record.field(0), record.field(1), record.field(2), record.field(3));
+    let is_guarded = record.kind == GUARDED_SWITCH;
     record.refuse_if(elements <= one || elements <= other || one == other, 7)?;
-    record.refuse_if(2 < form, 8)?;
+    record.refuse_if(2 < form || is_guarded && form == 0, 8)?;
     let form = [Form::Fixed, Form::Open, Form::Closed][form as usize];
     record.refuse_if((form == Form::Fixed) != (cost == 0), 9)?;
-    Ok(Link { ends: [one as usize, other as usize], form, cost })
+    let guard = if is_guarded { Some(guard(&record, earlier)?) } else { None };
+    Ok(Link { ends: [one as usize, other as usize], form, cost, guard })
+}
+
+/// Rule 20: a guard is an earlier link, and a switch.
+fn guard(record: &Record, earlier: &[Link]) -> Result<usize, Refusal> {
+    let guard = record.field(4) as usize;
+    record.refuse_if(!earlier.get(guard).is_some_and(Link::is_switch), 20)?;
+    Ok(guard)
 }
 
 fn plan_file(records: &mut Records, links: u64) -> Result<Vec<Step>, Refusal> {

@@ -33,8 +33,4 @@ impl Start {
         let live = live(&self.network, configuration);
         (0..live.len()).find(|&element| self.restorable[element] && !live[element])
     }
-
-    pub fn cost(&self, link: usize) -> u64 {
-        self.network.links[link].cost
-    }
 }

@@ -1,6 +1,6 @@
-//! A network as its file states it, with rules 5 to 9.
+//! A network as its file states it, with rules 5 to 9 and 20.
 use super::neighbours::Neighbours;
-use super::reader::{number, Reader, Record, Refusal, ELEMENT, HEAD, LINK, WIDE_ELEMENT};
+use super::reader::{number, Reader, Record, Refusal, ELEMENT, GUARDED, HEAD, LINK, WIDE_ELEMENT};
 
 pub const ELEMENTS: usize = 64;
 pub const LINKS: usize = 96;
@@ -21,6 +21,9 @@ pub struct Network {
     pub faulty: u64,
     pub ends: [(u8, u8); LINKS],
     pub cost: [u16; LINKS],
+    /// the switches that have a guard, and of each its guard
+    pub guarded: u128,
+    pub guard: [u8; LINKS],
     pub fixed: u128,
     /// the links closed at the start, fixed ones among them
     pub closed: u128,
@@ -44,7 +47,11 @@ impl Network {
         }
         let mut bit = 1;
         for link in 0..links {
-            network.put_link(link, bit, reader.record(LINK)?)?;
+            if reader.is_next(GUARDED) {
+                network.put_link::<5>(link, bit, reader.record(GUARDED)?)?;
+            } else {
+                network.put_link::<4>(link, bit, reader.record(LINK)?)?;
+            }
             bit <<= 1;
         }
         reader.end()?;
@@ -60,6 +67,8 @@ impl Network {
             faulty: 0,
             ends: [(0, 0); LINKS],
             cost: [0; LINKS],
+            guarded: 0,
+            guard: [0; LINKS],
             fixed: 0,
             closed: 0,
             neighbours: Neighbours::none(),
@@ -77,11 +86,17 @@ impl Network {
         Ok(())
     }
 
-    fn put_link(&mut self, link: usize, bit: u128, record: Record<4>) -> Result<(), Refusal> {
-        let [a, b, form, cost] = record.words;
+    /// A fifth word is the guard of a switch.
+    fn put_link<const WORDS: usize>(&mut self, link: usize, bit: u128, record: Record<WORDS>) -> Result<(), Refusal> {
+        let (a, b, form, cost) = (record.words[0], record.words[1], record.words[2], record.words[3]);
         record.demand(7, a.max(b) < self.elements as u16 && a != b)?;
-        record.demand(8, form <= 2)?;
+        record.demand(8, form <= 2 && (WORDS == 4 || form != 0))?;
         record.demand(9, (form == 0) == (cost == 0))?;
+        if let Some(&guard) = record.words.get(4) {
+            record.demand(20, (guard as usize) < link && self.fixed >> guard & 1 == 0)?;
+            self.guard[link] = guard as u8;
+            self.guarded |= bit;
+        }
         self.ends[link] = (a as u8, b as u8);
         self.cost[link] = cost;
         self.fixed |= if form == 0 { bit } else { 0 };

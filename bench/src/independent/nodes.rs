@@ -12,7 +12,6 @@ pub const NODES: usize = 2 * SWITCHES;
 
 #[derive(Clone, Copy, Default)]
 pub struct Switch {
-    pub closed: bool,
     /// the elements at its ends, and their nodes
     pub ends: [u8; 2],
     pub nodes: [u8; 2],
@@ -29,6 +28,8 @@ pub struct Nodes {
     pub faulty: u32,
     pub waiting: u32,
     pub switches: [Switch; SWITCHES],
+    /// the switches that are closed at the start
+    pub closed: u16,
     /// the switches with a live or waiting node at both ends, and not the same one: no other one is closed when all
     /// is restored
     pub usable: u16,
@@ -49,6 +50,7 @@ impl Nodes {
             faulty: 0,
             waiting: 0,
             switches: [Switch::default(); SWITCHES],
+            closed: 0,
             usable: 0,
             ports: [0; ELEMENTS],
             walk: Walk::new(),
@@ -68,8 +70,8 @@ impl Nodes {
             self.ports[a] |= 1 << i;
             self.ports[b] |= 1 << i;
         }
-        let closed = accepted.network.closed >> link & 1 == 1;
-        self.switches[i] = Switch { closed, ends: [a as u8, b as u8], nodes: nodes.map(|node| node as u8) };
+        self.closed |= ((accepted.network.closed >> link & 1) as u16) << i;
+        self.switches[i] = Switch { ends: [a as u8, b as u8], nodes: nodes.map(|node| node as u8) };
     }
 
     fn node(&mut self, accepted: &Accepted, element: usize) -> usize {

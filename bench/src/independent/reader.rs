@@ -7,6 +7,7 @@ pub const END: u16 = 4;
 pub const PLAN_HEAD: u16 = 5;
 pub const STEP: u16 = 6;
 pub const WIDE_ELEMENT: u16 = 7;
+pub const GUARDED: u16 = 8;
 
 #[derive(Clone, Copy, Debug, PartialEq)]
 pub struct Refusal {

@@ -6,10 +6,11 @@
 //!
 //! With all live nodes taken as one, the switches closed in the last configuration make a spanning tree of the nodes.
 //! The search grows it from the live nodes, always over the lightest switch that leads on: if nothing is overloaded
-//! on the way, that makes the lightest tree there is.
+//! on the way, that makes the lightest tree there is, unless guards that several switches share decide otherwise.
 use super::accepted::SWITCHES;
 use super::bits;
 use super::feeding::{Feed, Feeding};
+use super::guards::Shared;
 use super::supply::Supply;
 use super::weights::Weights;
 
@@ -20,7 +21,7 @@ pub fn lightest(feeding: &mut Feeding, weights: &Weights) -> Option<i64> {
     if feeding.lumped.too_small != 0 || supply.falls_short(feeding, stage.leading(), stage.load) {
         return None;
     }
-    let mut search = Search { feeding, supply, weight: weights.closed, best: i64::MAX };
+    let mut search = Search { feeding, supply, weight: weights.closed, shared: &weights.shared, best: i64::MAX };
     search.grow(stage);
     (search.best < i64::MAX).then_some(search.best)
 }
@@ -30,6 +31,7 @@ struct Search<'a, 'b> {
     supply: Supply,
     /// what each switch weighs when it is closed
     weight: [i64; SWITCHES],
+    shared: &'a Shared,
     best: i64,
 }
 
@@ -45,6 +47,8 @@ struct Stage {
     load: i64,
     /// no tree grown from this one weighs less: each node outside is joined over one of its switches
     least: i64,
+    /// the switches that share a guard which isn't paid yet
+    owing: u16,
 }
 
 impl Stage {
@@ -55,7 +59,17 @@ impl Stage {
         let lightest = |node: usize| weights.closed[(nodes.at[node] & free).trailing_zeros() as usize];
         let least = bits(nodes.waiting as u128).map(lightest).sum::<i64>();
         let load = feeding.lumped.total.iter().sum();
-        Stage { free, cut, waiting: nodes.waiting, load, least: weights.all_open + least }
+        let (least, owing) = (weights.all_open + least, weights.shared.switches);
+        let stage = Stage { free, cut, waiting: nodes.waiting, load, least, owing };
+        stage.operated(&weights.shared, nodes.closed & !free)
+    }
+
+    /// With the guards of these switches paid.
+    fn operated(mut self, shared: &Shared, switches: u16) -> Stage {
+        if switches & self.owing != 0 {
+            self.least += shared.pay(switches, &mut self.owing);
+        }
+        self
     }
 
     /// The switches that lead from the tree to a node outside.
@@ -83,7 +97,7 @@ impl Search<'_, '_> {
                 let done = self.grow(self.joined(&stage, feed));
                 self.supply.unhang(self.feeding, feed);
                 self.feeding.part(feed);
-                if done {
+                if done && self.is_first(&stage, feed.switch) {
                     return all;
                 }
             }
@@ -107,18 +121,32 @@ impl Search<'_, '_> {
     fn joined(&self, stage: &Stage, feed: Feed) -> Stage {
         let at = self.feeding.nodes.at[feed.to];
         let lightest = (at & stage.free).trailing_zeros() as usize;
-        Stage {
+        let joined = Stage {
             free: stage.free,
             cut: stage.cut ^ at,
             waiting: stage.waiting & !(1 << feed.to),
             load: stage.load - self.feeding.lumped.total[feed.to],
             least: stage.least + self.weight[feed.switch] - self.weight[lightest],
-        }
+            owing: stage.owing,
+        };
+        joined.operated(self.shared, self.unlike(at & stage.leading(), feed.switch))
+    }
+
+    /// Of these switches, those that aren't as at the start once this one is closed and the others are open.
+    fn unlike(&self, switches: u16, closed: usize) -> u16 {
+        switches & self.feeding.nodes.closed ^ 1 << closed
+    }
+
+    /// Whether every tree grown without this lightest switch that leads on weighs more than one with it, which has it
+    /// in the place of another one that leads on: so it is if no guard is to be paid for the exchange.
+    fn is_first(&self, stage: &Stage, switch: usize) -> bool {
+        stage.owing & self.unlike(stage.leading(), switch) == 0
     }
 
     /// Goes without a switch; hands back whether a lighter tree is still possible.
     fn exclude(&self, stage: &mut Stage, feed: Feed) -> bool {
-        let at = self.feeding.nodes.at[feed.to];
+        let nodes = &self.feeding.nodes;
+        let at = nodes.at[feed.to];
         let before = (at & stage.free).trailing_zeros() as usize;
         stage.free &= !(1 << feed.switch);
         if self.cut_off(stage, feed.to) {
@@ -126,6 +154,7 @@ impl Search<'_, '_> {
         }
         let after = (at & stage.free).trailing_zeros() as usize;
         stage.least += self.weight[after] - self.weight[before];
+        *stage = stage.operated(self.shared, 1 << feed.switch & nodes.closed);
         stage.least < self.best && !self.supply.falls_short(self.feeding, stage.leading(), stage.load)
     }
 

@@ -2,6 +2,7 @@
 use super::accepted::Accepted;
 use super::bits;
 use super::feeding::{Feed, Feeding};
+use super::guards;
 use super::nodes::NODES;
 use super::search::lightest;
 use super::weights::{self, Weights};
@@ -17,6 +18,8 @@ pub struct Trial<'a> {
     live: u32,
     /// of each node the feed that makes it live
     feeds: [Feed; NODES],
+    /// the guards of the switches operated
+    paid: u128,
     pub cost: u64,
 }
 
@@ -24,10 +27,8 @@ impl<'a> Trial<'a> {
     pub fn new(accepted: &'a Accepted) -> Self {
         let weights = Weights::of(accepted);
         let feeding = Feeding::new(accepted, weights.links());
-        let switches = feeding.nodes.switches.iter().enumerate();
-        let closed = switches.fold(0, |set, (i, switch)| set | (switch.closed as u16) << i);
-        let live = feeding.nodes.live;
-        Trial { accepted, weights, feeding, closed, live, feeds: [Feed::default(); NODES], cost: 0 }
+        let (closed, live) = (feeding.nodes.closed, feeding.nodes.live);
+        Trial { accepted, weights, feeding, closed, live, feeds: [Feed::default(); NODES], paid: 0, cost: 0 }
     }
 
     /// Takes a step, or says by its reason why it is bad and takes none.
@@ -42,7 +43,7 @@ impl<'a> Trial<'a> {
             return Err(3);
         }
         self.closed ^= 1 << switch;
-        self.cost += self.accepted.network.cost[link] as u64;
+        self.cost += guards::cost(&self.accepted.network, link, &mut self.paid);
         Ok(())
     }
 

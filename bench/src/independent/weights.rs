@@ -2,9 +2,10 @@
 //!
 //! A switch operated weighs its cost times 4,096 less a bit of its own, and the lower its link number, the higher
 //! that bit. So of two sets the cheaper one weighs less, and of two equally dear ones the one that comes first; and
-//! no two sets weigh the same.
+//! no two sets weigh the same. Guards weigh twice their costs times 4,096.
 use super::accepted::{Accepted, SWITCHES};
 use super::bits;
+use super::guards::{self, Shared};
 
 pub struct Weights {
     /// the operable links, those first that weigh least when they are closed in the end
@@ -14,23 +15,29 @@ pub struct Weights {
     pub closed: [i64; SWITCHES],
     /// what they weigh when all are open in the end
     pub all_open: i64,
+    /// the guards that these weights are without
+    pub shared: Shared,
 }
 
-const BITS: usize = SWITCHES;
+pub const BITS: usize = SWITCHES;
 
 impl Weights {
     pub fn of(accepted: &Accepted) -> Weights {
         let network = &accepted.network;
         let (mut sorted, mut count, mut all_open) = ([(0, 0); SWITCHES], 0, 0);
+        let alone = guards::alone(network, accepted.start.operable);
         for link in bits(accepted.start.operable) {
-            let operated = ((network.cost[link] as i64) << BITS) - (1 << (BITS - 1 - count));
+            let mut operated = ((network.cost[link] as i64) << BITS) - (1 << (BITS - 1 - count));
+            operated += if alone >> link & 1 == 1 { guards::weight(network, link) } else { 0 };
             let closed = network.closed >> link & 1 == 1;
             all_open += if closed { operated } else { 0 };
             sorted[count] = (if closed { -operated } else { operated }, link as u8);
             count += 1;
         }
         sorted[..count].sort_unstable();
-        Weights { links: sorted.map(|(_, link)| link), count, closed: sorted.map(|(weight, _)| weight), all_open }
+        let (links, closed) = (sorted.map(|(_, link)| link), sorted.map(|(weight, _)| weight));
+        let shared = Shared::of(network, &links[..count], !alone);
+        Weights { links, count, closed, all_open, shared }
     }
 
     pub fn links(&self) -> &[u8] {
