@@ -1,6 +1,6 @@
--- From the struct to the theory: a well-formed network has a well-formed grid, so the balance and the central theorem hold of its plans.
+-- From the struct to the theory: a well-formed network has a well-formed grid, so the central theorem holds of its plans.
 -- Assumes nothing.
-use Prim.Native.Nat.{ℕ, _+_}
+use Prim.Native.Nat.{ℕ}
 use native.Mathlib.Omega.{arith}
 use mathlib.Core.Path.{_≡_}
 use mathlib.Core.List.{List}
@@ -12,15 +12,14 @@ use Rattle.network.specs.declared.refusal.Answer.{Answer}
 use Rattle.network.specs.declared.refusal.Answer.the-variants.{Accepted}
 use Rattle.feeding.specs.Acceptance.{Starts, Answered, not-a-tree, two-sources, fault-with-source, overloaded, too-many, accepted, answerTo}
 use Rattle.feeding.specs.Networks.{Formed, at, gridOf, netOf}
-use Rattle.feeding.specs.Plans.{Step, run, Good, ValidPlan, Matched}
+use Rattle.feeding.specs.Plans.{Step, ValidPlan, Matched}
 use Rattle.feeding.specs.Costs.{costOf}
-use Rattle.feeding.specs.Restoration.{FixedClosed, Operable, Restored, operables, fedLoad, darkLoad, lostLoad, totalLoad}
+use Rattle.feeding.specs.Restoration.{FixedClosed, Operable, Restored, operables}
 use Rattle.feeding.specs.Safety.{Safe}
 use Rattle.feeding.specs.Tasks.{Lawful, restoration}
 use Rattle.feeding.proofs.Answers.{operables-counted, operables-unique, acceptance-answered, answered-acceptance}
-use Rattle.feeding.proofs.Balance.{fixed-kept, balance}
 use Rattle.feeding.proofs.Below.{or-left}
-use Rattle.feeding.proofs.Printed.{run-safe, matched}
+use Rattle.feeding.proofs.Printed.{matched}
 use Rattle.feeding.proofs.Tasks.{restoration-lawful}
 
 pub formed-net : (n : Network) → WellFormed n → Formed (netOf n .grid)
@@ -57,15 +56,6 @@ accepted-starts n w e = go (answerTo n) (network-answered n w) e
     go _ (too-many _ _ _) e = let z : _≡_ {A = ℕ} 0 1 = cc in absurd (omega arith)
 
 module _ (n : Network) (well : WellFormed n) (safe : Safe (netOf n .grid) (netOf n .startClosed)) (q : List Step) where
-  -- after any good steps, fed, dark and lost loads add up to the total
-  pub plan-balance : Good (netOf n) (Operable (netOf n)) (netOf n .startClosed) q
-      → fedLoad (netOf n) (run (netOf n .startClosed) q) + darkLoad (netOf n) (run (netOf n .startClosed) q) + lostLoad (netOf n)
-      ≡ totalLoad (netOf n .grid)
-  plan-balance good =
-      balance (netOf n) (formed-net n well) (run (netOf n .startClosed) q)
-      (fixed-kept (netOf n) (Operable (netOf n)) (λ l o. o .switch) (fixed-closed n) q good)
-      (run-safe (netOf n) (Operable (netOf n)) (netOf n .startClosed) q safe good)
-
   -- a valid plan is matched by the printed form of what it leaves changed, which costs no more
   pub plan-matched : ValidPlan (netOf n) q → Matched (netOf n) (Operable (netOf n)) (Restored (netOf n)) (costOf (netOf n)) q
   plan-matched v = matched (netOf n) (restoration (netOf n)) (lawful n well) safe q v

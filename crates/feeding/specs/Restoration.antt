@@ -1,4 +1,4 @@
--- Document 01, "Feeding": spoiled, restorable and operable; and "Printed lines": fed, dark and lost.
+-- Document 01, "Feeding": spoiled, restorable and operable; and "Printed lines": the total of all own loads.
 -- Assumes nothing.
 use mathlib.Core.Path.{_≡_}
 use mathlib.Core.Bool.{Bool, true, false, not, _&&_, _||_}
@@ -7,7 +7,7 @@ use mathlib.Core.List.{List}
 use Prim.Native.Nat.{ℕ, _<_}
 use lib.Dec.{ltb}
 use lib.ListN.{length}
-use Rattle.feeding.specs.Below.{Member, Rising, anyTo, allTo, imp, gate, sumTo, those}
+use Rattle.feeding.specs.Below.{Member, Rising, anyTo, allTo, imp, sumTo, those}
 use Rattle.feeding.specs.Networks.{Grid, Net}
 use Rattle.feeding.specs.Parts.{Config, touches, far, Joined, Live, joined?, live?}
 
@@ -81,15 +81,6 @@ operables net = operablesBy net (operable? net)
 unfoldable pub restored? : Net → Config → Bool
 restored? net c = allTo (net .grid .E) (λ e. imp (restorable? net e) (live? (net .grid) c e))
 
--- "Fed sums the loads of elements live after the plan .., dark those of restorable elements then dark, lost those of elements that aren't restorable."
-unfoldable pub fedLoad : Net → Config → ℕ
-fedLoad net c = sumTo (net .grid .E) (λ e. gate (live? (net .grid) c e) (net .grid .load e))
-
-unfoldable pub darkLoad : Net → Config → ℕ
-darkLoad net c = sumTo (net .grid .E) (λ e. gate (restorable? net e && not (live? (net .grid) c e)) (net .grid .load e))
-
-unfoldable pub lostLoad : Net → ℕ
-lostLoad net = sumTo (net .grid .E) (λ e. gate (not (restorable? net e)) (net .grid .load e))
-
+-- "the total of all own loads"
 unfoldable pub totalLoad : Grid → ℕ
 totalLoad g = sumTo (g .E) (g .load)

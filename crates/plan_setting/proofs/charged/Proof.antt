@@ -146,13 +146,15 @@ loop-again : tie.Need-loop-again Inv-loop μ-loop
 loop-again c =
     let args· = c .before .before .before .before .before .before .before .args in
     let loop· = c .before .before .before .before .loop in
-    let pre· = c .before .before .before .before .before .before .before .pre in
-    (omega arith, ⊎-elim
-        (λ w. charges-more (args· .guard .now) (args· .cost .now) (args· .links) (args· .link .now) _ (loop· .out) _ (loop· .i) _ _ (omega (arith, pre· .0 .fit)) (loop· .inv .1)
-            (guarded-entries (args· .guard .now) (args· .cost .now) (args· .links) (args· .link .now) (loop· .i) _ _ (w .0 .taken) refl (w .2 .ensures)) (w .3))
-        (λ w. charges-more (args· .guard .now) (args· .cost .now) (args· .links) (args· .link .now) _ (loop· .out) _ (loop· .i) _ _ (omega (arith, pre· .0 .fit)) (loop· .inv .1)
-            (free-entries (args· .guard .now) (args· .cost .now) (args· .links) (args· .link .now) (loop· .i) _ _ (w .0 .left) refl refl) (w .1))
-        (c .if1 .came))
+    let pre· = c .before .before .before .before .before .before .before .pre in (
+      omega arith,
+      ⊎-elim
+          (λ w. charges-more (args· .guard .now) (args· .cost .now) (args· .links) (args· .link .now) _ (loop· .out) _ (loop· .i) _ _ (omega (arith, pre· .0 .fit)) (loop· .inv .1)
+          (guarded-entries (args· .guard .now) (args· .cost .now) (args· .links) (args· .link .now) (loop· .i) _ _ (w .0 .taken) refl (w .2 .ensures)) (w .3))
+          (λ w. charges-more (args· .guard .now) (args· .cost .now) (args· .links) (args· .link .now) _ (loop· .out) _ (loop· .i) _ _ (omega (arith, pre· .0 .fit)) (loop· .inv .1)
+          (free-entries (args· .guard .now) (args· .cost .now) (args· .links) (args· .link .now) (loop· .i) _ _ (w .0 .left) refl refl) (w .1))
+          (c .if1 .came),
+    )
 
 returns : tie.Need-returns Inv-loop μ-loop
 returns c =

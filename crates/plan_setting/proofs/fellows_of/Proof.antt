@@ -68,11 +68,13 @@ loop-less c =
 loop-again : tie.Need-loop-again Inv-loop μ-loop
 loop-again c =
     let args· = c .before .before .before .before .before .args in
-    let loop· = c .before .before .before .before .loop in
-    (omega arith, ⊎-elim
-        (λ w. mask-on (λ x. eqb (at (args· .guard .now) (at (args· .link .now) x)) (args· .g)) (loop· .j) (loop· .mask) _ (loop· .inv .1) (eq-eqb _ _ (w .0 .taken)) (w .1))
-        (λ w. mask-off (λ x. eqb (at (args· .guard .now) (at (args· .link .now) x)) (args· .g)) (loop· .j) (loop· .mask) _ (loop· .inv .1) (ne-eqb _ _ (w .0 .left)) (w .1))
-        (c .if1 .came))
+    let loop· = c .before .before .before .before .loop in (
+      omega arith,
+      ⊎-elim
+          (λ w. mask-on (λ x. eqb (at (args· .guard .now) (at (args· .link .now) x)) (args· .g)) (loop· .j) (loop· .mask) _ (loop· .inv .1) (eq-eqb _ _ (w .0 .taken)) (w .1))
+          (λ w. mask-off (λ x. eqb (at (args· .guard .now) (at (args· .link .now) x)) (args· .g)) (loop· .j) (loop· .mask) _ (loop· .inv .1) (ne-eqb _ _ (w .0 .left)) (w .1))
+          (c .if1 .came),
+    )
 
 returns : tie.Need-returns Inv-loop μ-loop
 returns c =
