@@ -240,7 +240,7 @@ own-told s seen at PlanEnd sees = tt
 own-told s seen at Over sees = tt
 
 -- links and steps each have a stage of their own
-link-stage : {stage : Stage} {kind : ℕ} → MayCome stage kind → (kind ≡ 3) ⊎ (kind ≡ 8) → stage ≡ Links
+pub link-stage : {stage : Stage} {kind : ℕ} → MayCome stage kind → (kind ≡ 3) ⊎ (kind ≡ 8) → stage ≡ Links
 link-stage (next, c) e = go c e
   where
     neither : {A : Type 0} {kind : ℕ} → ¬ (kind ≡ 3) → ¬ (kind ≡ 8) → (kind ≡ 3) ⊎ (kind ≡ 8) → A

@@ -13,6 +13,7 @@ use Rattle.network.specs.Networks.{emptyNetwork}
 use Rattle.network.specs.declared.refusal.Refusal.{Refusal}
 use Rattle.network.specs.declared.refusal.Answer.the-variants.{Accepted, Refused}
 use Rattle.file_stages.specs.declared.Stage.{Stage}
+use Rattle.file_stages.specs.declared.Stage.the-variants.{Links}
 use Rattle.file_records.specs.declared.Found.the-variants as Found·
 use Rattle.file_fields.specs.declared.Seen.{Seen}
 use Rattle.file_records.specs.Records.{kindField, lengthField, dueAt}
@@ -31,6 +32,7 @@ use Rattle.judge.proofs.Marking.{judge-replies}
 use Rattle.feeding_acceptance.proofs.Promises.{network-once, first-rule-once, accepted-unrefused}
 use Rattle.file_refusals.specs.Breaking.{BreaksFirst, Keeps, ComesNext}
 use Rattle.file_refusals.specs.Files.{FirstBroken, FirstBrokenBoth}
+use Rattle.file_refusals.specs.Seeing.{SeesSwitches}
 use Rattle.file_refusals.specs.Stated.{NetworkOf, BothOf}
 use Rattle.file_refusals.proofs.Record.{own-told, record-refused}
 use Rattle.file_refusals.proofs.Record as Record
@@ -85,14 +87,15 @@ module _ (s : List ℕ) where
   both-broken = both-handed-out s
 
   -- and the record reader, by the contract of `record_due`: at an offset where a record is due, the first rule that it breaks, with the offset as its
-  -- place, or its kind and length, and the stage that follows
-  pub record-broken : (seen : Seen) (at : ℕ) (stage : Stage) (f : Refusal)
+  -- place, or its kind and length, and the stage that follows; where links stand, what is seen tells which switches stand before it
+  pub record-broken : (seen : Seen) (at : ℕ) (stage : Stage) → (stage ≡ Links → SeesSwitches s (seen .elements) at seen) → (f : Refusal)
       → (dueAt s seen at stage ≡ Found·.Refused f) ↔ (BreaksFirst s (seen .elements) (seen .links) at stage (f .rule) × (f .place ≡ at))
-  record-broken seen at stage = record-refused s (seen .elements) (seen .links) at stage seen (own-told s seen at stage)
+  record-broken seen at stage sees = record-refused s (seen .elements) (seen .links) at stage seen (own-told s seen at stage sees)
 
-  pub record-found : (seen : Seen) (at : ℕ) (stage : Stage) (kind long : ℕ) (next : Stage) → (dueAt s seen at stage ≡ Found·.Record kind long next)
+  pub record-found : (seen : Seen) (at : ℕ) (stage : Stage) → (stage ≡ Links → SeesSwitches s (seen .elements) at seen)
+      → (kind long : ℕ) (next : Stage) → (dueAt s seen at stage ≡ Found·.Record kind long next)
       ↔ (Keeps s (seen .elements) (seen .links) at stage × (kind ≡ kindField s at) × (long ≡ lengthField s at) × ComesNext stage kind next)
-  record-found seen at stage = Record.record-found s (seen .elements) (seen .links) at stage seen (own-told s seen at stage)
+  record-found seen at stage sees = Record.record-found s (seen .elements) (seen .links) at stage seen (own-told s seen at stage sees)
 
 -- ---- "Faulty input is refused by the first rule of document 01 that it breaks, with number and place."
 

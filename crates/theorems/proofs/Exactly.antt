@@ -162,22 +162,22 @@ module _ (s : List ℕ) where
 
 -- ---- how long accepted input is
 
-pub accepted-most : (s : List ℕ) (n : Network) → AcceptedNetwork s n → length s ≤ 2060
+pub accepted-most : (s : List ℕ) (n : Network) → AcceptedNetwork s n → length s ≤ 2252
 unfolding networkRead
 accepted-most s n a = go (networkInput s) refl (network-read s n .1 (a .file))
   where
-    go : (o : Reading Network) → networkInput s ≡ o → networkRead o ≡ record { answer = Accepted; net = n } → length s ≤ 2060
+    go : (o : Reading Network) → networkInput s ≡ o → networkRead o ≡ record { answer = Accepted; net = n } → length s ≤ 2252
     go (refused f) e k =
         let same : Refused f ≡ Accepted = ap (λ (r : NetworkRead). r .answer) k in
         let z : _≡_ {A = ℕ} 0 1 = cc in
         absurd (omega arith)
     go (reached at stage m) e k = network-most s at stage m e
 
-pub accepted-plan-most : (s : List ℕ) (n : Network) (q : List Step) → AcceptedPlan s n q → length s ≤ 4110
+pub accepted-plan-most : (s : List ℕ) (n : Network) (q : List Step) → AcceptedPlan s n q → length s ≤ 4302
 unfolding bothRead
 accepted-plan-most s n q a = go (bothInput s) refl (both-read s n (a .plan) .1 (a .files))
   where
-    go : (o : Reading (Network × Plan)) → bothInput s ≡ o → bothRead o ≡ record { answer = Accepted; net = n; plan = a .plan } → length s ≤ 4110
+    go : (o : Reading (Network × Plan)) → bothInput s ≡ o → bothRead o ≡ record { answer = Accepted; net = n; plan = a .plan } → length s ≤ 4302
     go (refused f) e k =
         let same : Refused f ≡ Accepted = ap (λ (r : BothRead). r .answer) k in
         let z : _≡_ {A = ℕ} 0 1 = cc in

@@ -9,7 +9,7 @@ use lib.ListN.{length, getD, take, length-append}
 use Rattle.network.specs.declared.Network.{Network}
 use Rattle.network.specs.declared.refusal.Refusal.{Refusal}
 use Rattle.network.specs.declared.refusal.Rule.{Rule}
-use Rattle.network.specs.declared.refusal.Rule.the-variants.{RecordMissing, KindOutOfPlace, WrongLength, RecordCutOff, HeadOutOfRange, UnknownFlags, BadEnds, UnknownForm, UnsuitedCost, TooManySteps, UnknownLink, UnknownState, ByteAfterEnd, NotATree, TwoSources, FaultWithSource, Overloaded, TooManyOperable, BufferTooShort}
+use Rattle.network.specs.declared.refusal.Rule.the-variants.{RecordMissing, KindOutOfPlace, WrongLength, RecordCutOff, HeadOutOfRange, UnknownFlags, BadEnds, UnknownForm, UnsuitedCost, TooManySteps, UnknownLink, UnknownState, ByteAfterEnd, NotATree, TwoSources, FaultWithSource, Overloaded, TooManyOperable, BufferTooShort, BadGuard}
 use Rattle.network.specs.declared.refusal.Answer.{Answer}
 use Rattle.network.specs.declared.refusal.Answer.the-variants.{Accepted, Refused}
 use Rattle.network.specs.Accepted.{WellFormed}
@@ -25,7 +25,8 @@ use Rattle.feeding.specs.Parts.{Config}
 use Rattle.feeding.specs.Restoration.{Operable, Operables, operable?, operables, operablesBy, totalLoad}
 use Rattle.feeding.specs.Tasks.{mostOperable, restoration}
 use Rattle.feeding.specs.Plans.{Step, Good, sweep, printedForm, run}
-use Rattle.feeding.specs.Costs.{costOf}
+use Rattle.feeding.specs.Costs.{stepsCost, operated, costOf}
+use Rattle.feeding.proofs.Guards.{guard-cost-below}
 use Rattle.feeding.proofs.Below.{gate-mono, gate-le}
 use Rattle.feeding.proofs.Sums.{sumTo-add, sumTo-mono, sumTo-ext, sumTo-below}
 use Rattle.feeding.proofs.Lows.{length-those}
@@ -86,7 +87,7 @@ promised-few net formed starts q cost p =
     (λ l _. gate-mono (p .set l) (operable? net l) 1 1 (λ e. operable?-in net formed l (p .picked .restores .operable l e)) (omega arith)) in
     omega (arith, ap length (p .form), form-length net (p .set), all, length-those (net .grid .K) (operable? net), starts .few)
 
-numbers : (r : Rule) → ruleNumber r ≤ 19
+numbers : (r : Rule) → ruleNumber r ≤ 20
 numbers RecordMissing = omega arith
 numbers KindOutOfPlace = omega arith
 numbers WrongLength = omega arith
@@ -106,6 +107,7 @@ numbers FaultWithSource = omega arith
 numbers Overloaded = omega arith
 numbers TooManyOperable = omega arith
 numbers BufferTooShort = omega arith
+numbers BadGuard = omega arith
 
 reasons : (r : Reason) → reasonNumber r ≤ 3
 reasons NotOperable = omega arith
@@ -178,10 +180,15 @@ module _ (n : Network) (w : WellFormed n) where
   unfolding netOf gridOf
   cost-within l o = omega (arith, w .cost-in l (o .below))
 
-  costs-within : (c : Config) (q : List Step) → Good (netOf n) (Operable (netOf n)) c q → costOf (netOf n) q ≤ 65535 * length q
-  unfolding Good costOf
-  costs-within c [] g = omega arith
-  costs-within c (s ∷ q) g = omega (arith, cost-within (s .link) (g .0 .operable), costs-within _ q (g .1))
+  steps-within : (c : Config) (q : List Step) → Good (netOf n) (Operable (netOf n)) c q → stepsCost (netOf n) q ≤ 65535 * length q
+  unfolding Good stepsCost
+  steps-within c [] g = omega arith
+  steps-within c (s ∷ q) g = omega (arith, cost-within (s .link) (g .0 .operable), steps-within _ q (g .1))
+
+  -- and twice the cost of each of at most 96 guards
+  costs-within : (c : Config) (q : List Step) → Good (netOf n) (Operable (netOf n)) c q → costOf (netOf n) q ≤ 65535 * length q + 12582720
+  unfolding costOf netOf gridOf
+  costs-within c q g = omega (arith, steps-within c q g, guard-cost-below (netOf n) (w .cost-in) (operated q), links-few)
 
   pub total-within : totalLoad (netOf n .grid) < 2 ^ 38
   unfolding totalLoad netOf gridOf
@@ -221,7 +228,7 @@ plan-length : (n : Network) → WellFormed n → Starts (netOf n) → (q : List 
 unfolding planTextOf replyText planLine
 plan-length n w starts q cost l p h =
     let few = promised-few (netOf n) (formed-net n w) starts q cost p in
-    let paid : cost ≤ 65535 * mostOperable = omega (arith, p .own, costs-within n w (netOf n .startClosed) q (p .valid .good), few) in
+    let paid : cost ≤ 65535 * mostOperable + 12582720 = omega (arith, p .own, costs-within n w (netOf n .startClosed) q (p .valid .good), few) in
     omega (
       arith,
       length-append (lineOf planWord (length q) cost ++ stepTexts q) (textOf (tailLines l)),
@@ -283,7 +290,7 @@ module _ (s : List ℕ) (bytes : Bytes s) (short : length s ≤ decides) where
             field-16 e (omega (arith, x .below, elements-few n (formed .net))),
           )
       go _ (Marks.valid {v = v} x) =
-          let paid : v .cost ≤ 65535 * 255 = omega (arith, x .own, costs-within n (formed .net) (netOf n .startClosed) q (x .valid .good), steps) in
+          let paid : v .cost ≤ 65535 * 255 + 12582720 = omega (arith, x .own, costs-within n (formed .net) (netOf n .startClosed) q (x .valid .good), steps) in
           omega (
             arith,
             line-length validWord (v .cost) (v .excess),

@@ -2,14 +2,14 @@
 -- library give by their contracts (Demand1); that rules 1 to 13 are answered both ways, with kind 7 among the kinds, is Demand1's.
 -- Assumes nothing.
 use mathlib.Core.Path.{_≡_, refl, sym, ap, subst, _∙_}
-use mathlib.Core.Bool.{not}
+use mathlib.Core.Bool.{true}
 use mathlib.Core.List.{List, _∷_}
 use mathlib.Core.Logic.{_↔_}
 use Prim.Native.Nat.{ℕ, _+_, _*_, _-_, _^_, _<_, _≤_}
 use native.Mathlib.Nat.{add-assoc}
 use native.Mathlib.Omega.{arith}
 use lib.ListN.{length, getD, take, replicate}
-use borrow.Author.Tests.{ne-eqb, le-ltb}
+use borrow.Author.Tests.{le-ltb}
 use Rattle.network.specs.declared.Network.{Network}
 use Rattle.network.specs.declared.refusal.Rule.the-variants.{KindOutOfPlace, WrongLength, UnknownFlags}
 use Rattle.file_stages.specs.declared.Stage.{Stage}
@@ -20,14 +20,11 @@ use Rattle.file_fields.specs.Fields.{word, wideWord, lengthOf}
 use Rattle.file_records.specs.declared.Found.the-variants as Found·
 use Rattle.file_records.specs.Records.{kindField, lengthField, dueBy, dueAt}
 use Rattle.file_records.proofs.Known as Known
-use Rattle.file_network.specs.Runs.{Reading, refused}
-use Rattle.file_network.specs.Inputs.{networkRead, networkInputBy, networkInput}
-use Rattle.file_network.proofs.Known.{KnownThere, network-input-known}
-use Rattle.file_plan.specs.declared.plan.Plan.{Plan}
+use Rattle.file_network.specs.Inputs.{networkInputBy}
+use Rattle.file_network.proofs.Known.{KnownThere}
 use Rattle.file_both.specs.declared.BothRead.{BothRead}
 use Rattle.file_network.specs.declared.NetworkRead.{NetworkRead}
-use Rattle.file_both.specs.Inputs.{bothInputBy, bothInput, bothRead}
-use Rattle.file_both.proofs.Known.{both-input-known}
+use Rattle.file_both.specs.Inputs.{bothInputBy}
 use Rattle.file_refusals.proofs.Record.{comes-next, in-table, length-only}
 use Rattle.file_refusals.specs.Breaking.{ComesNext, KindLength, wide-element, StatesElement, narrow, wide, BreaksRule}
 use Rattle.file_refusals.specs.Files.{Stand, KeepsNetwork, KeepsBoth}
@@ -42,7 +39,6 @@ use Rattle.feeding.specs.Safety.{Safe}
 use Rattle.feeding.specs.Restoration.{totalLoad}
 use Rattle.feeding.proofs.Hanging.{safe-at-most}
 use Rattle.feeding.proofs.Views.{formed-net}
-use Rattle.feeding.specs.Plans.{Step}
 use Rattle.feeding_acceptance.specs.Reading.{Bytes, AcceptedNetwork, acceptedRead}
 use Rattle.plan_sums.specs.declared.Sums.{Sums}
 use Rattle.plan_sums.specs.Sums.{LoadsIn}
@@ -50,8 +46,9 @@ use Rattle.plan_outcome.specs.Outcomes.{outcomeRead, outcomeBy, outcome}
 use Rattle.plan_outcome.proofs.Exactly.{outcome-decided}
 use Rattle.planner.specs.Replies.{linesOf}
 use Rattle.judge_line.specs.MarkLines.{markLine}
-use Rattle.judge.specs.Judging.{AcceptedPlan, markOfRead, markForBy, markFor}
+use Rattle.judge.specs.Judging.{markOfRead, markForBy}
 use Rattle.judge.proofs.Marking.{mark-decided}
+use Rattle.theorems.proofs.AsEver as AsEver
 use Rattle.theorems.proofs.Exactly as Exactly
 use Rattle.theorems.proofs.Lengths as Lengths
 use Rattle.theorems.specs.Words.{planText, markText, planTextBy, markTextBy, documentOne}
@@ -117,12 +114,6 @@ module _ (s : List ℕ) (bytes : Bytes s) (n : Network) (a : AcceptedNetwork s n
 
 -- ---- "Input may now be longer: the first 8,192 bytes decide, here and in all later items but 14."
 
-pub network-long : (s : List ℕ) (n : Network) → AcceptedNetwork s n → length s ≤ 2060
-network-long = Exactly.accepted-most
-
-pub both-long : (s : List ℕ) (n : Network) (q : List Step) → AcceptedPlan s n q → length s ≤ 4110
-both-long = Exactly.accepted-plan-most
-
 pub library-decided : (s : List ℕ) → outcome (take 8192 s) ≡ outcome s
 library-decided = outcome-decided
 
@@ -132,37 +123,29 @@ planner-decided s = ap linesOf (outcome-decided s)
 pub judge-decided : (s : List ℕ) → markText (take 8192 s) ≡ markText s
 judge-decided s = ap markLine (mark-decided s)
 
--- ---- "A file of kind 2 records gets the plan and marks it always got,": what a reader that knows no kind 7 gives, refusals included, but where that
--- refuses a record of kind 7 by rule 2
+-- ---- "A file of kind 2 records gets the plan and marks it always got,": what a reader gives that knows the kinds of document 01 alone, refusals included, but
+-- where that refuses a record of a later kind by rule 2
 
--- a record of another kind is found and refused as ever, one of kind 7 refused by rule 2 where four bytes stand there
-pub known-record : (s : List ℕ) (seen : Seen) (at : ℕ) (stage : Stage) → ¬ (kindField s at ≡ 7) → dueBy documentOne s seen at stage ≡ dueAt s seen at stage
-known-record s seen at stage h = Known.known-record documentOne s seen at stage (ap not (ne-eqb (kindField s at) 7 h))
+-- a record of a kind of document 01 is found and refused as ever, one of kind 7 refused by rule 2 where four bytes stand there
+pub known-record : (s : List ℕ) (seen : Seen) (at : ℕ) (stage : Stage) → documentOne (kindField s at) ≡ true → dueBy documentOne s seen at stage ≡ dueAt s seen at stage
+known-record = Known.known-record documentOne
 
 pub unknown-record : (s : List ℕ) (seen : Seen) (at : ℕ) (stage : Stage) → kindField s at ≡ 7 → at + 4 ≤ length s
     → dueBy documentOne s seen at stage ≡ Found·.Refused (record { rule = KindOutOfPlace; place = at })
 unknown-record s seen at stage h four = Known.unknown-record documentOne s seen at stage (ap documentOne h) (le-ltb (length s - at) 4 (omega arith))
 
-known-there : {A : Type 0} (s : List ℕ) (o : Reading A) → ((place : ℕ) → o ≡ refused (record { rule = KindOutOfPlace; place = place }) → ¬ (kindField s place ≡ 7))
-    → KnownThere documentOne s o
-known-there s o h place e = ap not (ne-eqb (kindField s place) 7 (h place e))
+module _ (s : List ℕ) where
+  pub library-as-ever : KnownThere documentOne s (networkInputBy documentOne s) → outcome s ≡ outcomeBy documentOne s
+  library-as-ever = AsEver.library-as-ever documentOne s
 
-module _ (s : List ℕ) (never : (place : ℕ) → networkInputBy documentOne s ≡ refused (record { rule = KindOutOfPlace; place = place }) → ¬ (kindField s place ≡ 7)) where
-  pub library-as-ever : outcome s ≡ outcomeBy documentOne s
-  unfolding outcomeBy
-  library-as-ever =
-      sym (ap (λ (o : Reading Network). outcomeRead (acceptedRead (networkRead o))) (network-input-known documentOne s (known-there s (networkInputBy documentOne s) never)))
+  pub planner-as-ever : KnownThere documentOne s (networkInputBy documentOne s) → planText s ≡ planTextBy documentOne s
+  planner-as-ever = AsEver.planner-as-ever documentOne s
 
-  pub planner-as-ever : planText s ≡ planTextBy documentOne s
-  planner-as-ever = ap linesOf library-as-ever
+  pub judge-as-ever : KnownThere documentOne s (bothInputBy documentOne s) → markText s ≡ markTextBy documentOne s
+  judge-as-ever = AsEver.judge-as-ever documentOne s
 
-module _ (s : List ℕ) (never : (place : ℕ) → bothInputBy documentOne s ≡ refused (record { rule = KindOutOfPlace; place = place }) → ¬ (kindField s place ≡ 7)) where
-  pub judge-as-ever : markText s ≡ markTextBy documentOne s
-  unfolding markForBy
-  judge-as-ever =
-      sym (ap (λ (o : Reading (Network × Plan)). markLine (markOfRead (bothRead o))) (both-input-known documentOne s (known-there s (bothInputBy documentOne s) never)))
-
--- ---- "and a narrow element rewritten as kind 7 changes no printed line of a file that passes rules 1 to 13.": one after the other, any number of elements
+-- ---- "and a narrow element rewritten as kind 7 changes no printed line of a file that passes rules 1 to 13.": one after the other, any number of elements;
+-- `KeepsNetwork`, `KeepsBoth` ask rule 20 too, as item 2 wishes
 
 module _ (s t : List ℕ) (rewritten : Widenings s t) where
   pub library-narrow-as-wide : KeepsNetwork s → outcome t ≡ outcome s

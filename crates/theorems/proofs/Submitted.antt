@@ -19,7 +19,7 @@ use Rattle.file_network.proofs.Sizes.{network-input-size}
 use Rattle.file_network.proofs.NetworkAlike.{network-followed}
 use Rattle.file_plan.specs.declared.plan.Plan.{Plan}
 use Rattle.file_plan.specs.Accepted.{WellFormedPlan}
-use Rattle.file_both.specs.Inputs.{planBehind, planBehindBy, bothInput, bothInputBy, bothRead}
+use Rattle.file_both.specs.Inputs.{planBehindBy, bothInput, bothInputBy, bothRead}
 use Rattle.file_writer.specs.Writing.{planBytes, planLength}
 use Rattle.file_writer.proofs.RoundTrip.{SameSteps, firstSteps, first-same, round-trip-input}
 use Rattle.feeding.specs.Networks.{netOf, gridOf}

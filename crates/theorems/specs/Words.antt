@@ -1,10 +1,18 @@
 -- Words of the demands that the theorems use: what is printed, how a text begins, and what a plan does on its way.
 -- Assumes nothing.
 use mathlib.Core.Path.{_≡_}
-use mathlib.Core.Bool.{Bool, true, not}
+use mathlib.Core.Bool.{Bool, true, not, _&&_}
 use mathlib.Core.List.{List, _∷_, _++_}
-use Prim.Native.Nat.{ℕ, _<_, _≤_}
+use Prim.Native.Nat.{ℕ, _+_, _<_, _≤_}
 use lib.Dec.{eqb}
+use Rattle.network.specs.declared.refusal.Rule.{Rule}
+use Rattle.network.specs.declared.refusal.Rule.the-variants.{BadGuard}
+use Rattle.network.specs.Refusals.{Sooner}
+use Rattle.file_stages.specs.declared.Stage.{Stage}
+use Rattle.file_fields.specs.Fields.{word}
+use Rattle.file_records.specs.Records.{kindField}
+use Rattle.file_refusals.specs.Breaking.{BreaksRule, EarlierSwitch}
+use Rattle.file_refusals.specs.Files.{networkStages, Stand}
 use Rattle.feeding.specs.Networks.{Net}
 use Rattle.feeding.specs.Parts.{Joined, Sound, Live}
 use Rattle.feeding.specs.Loads.{Fed, loadAt}
@@ -31,9 +39,24 @@ planTextBy known s = linesOf (outcomeBy known s)
 abbrev pub markTextBy : (ℕ → Bool) → List ℕ → List ℕ
 markTextBy known s = markLine (markForBy known s)
 
--- the kinds that document 01 knows: those of the table but for item 1's
+-- the kinds that item 1 knows: those of the table but for item 2's; and those that document 01 knows: item 1's not either
+abbrev pub itemOne : ℕ → Bool
+itemOne kind = not (eqb kind 8)
+
 abbrev pub documentOne : ℕ → Bool
-documentOne kind = not (eqb kind 7)
+documentOne kind = itemOne kind && not (eqb kind 7)
+
+-- "It refuses, after 9 in the same record and with the same place, with 20 a guard that isn't an earlier switch.": the records of the network file stand up to
+-- this place, and the one there is of kind 8, breaks no rule that is checked sooner, and names a guard that is no earlier switch
+pub record GuardRefused (s : List ℕ) (place : ℕ) : Type 0 where
+  pub front : List Stage
+  pub stage : Stage
+  pub rest : List Stage
+  pub whole : networkStages (word s 4) (word s 6) ≡ front ++ (stage ∷ rest)
+  pub before : Stand s (word s 4) (word s 6) front 0 place
+  pub sooner : (q : Rule) → Sooner q BadGuard → ¬ BreaksRule s (word s 4) (word s 6) place stage q
+  pub kind : kindField s place ≡ 8
+  pub guard : ¬ EarlierSwitch s (word s 4) place (word s (place + 12))
 
 -- a text begins with a word
 abbrev pub Begins : List ℕ → List ℕ → Type 0

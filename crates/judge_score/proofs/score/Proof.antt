@@ -10,13 +10,13 @@ use Rattle.judge_score.proofs.score.Tie as tie
 
 plan-cost-requires : tie.Need-plan-cost-requires
 plan-cost-requires c κs =
-    let pre· = c .before .before .pre in
-    let args· = c .before .before .args in
+    let pre· = c .pre in
+    let args· = c .args in
     (pre· .0 .formed, pre· .1 .0)
 
 cheapest-cost-requires : tie.Need-cheapest-cost-requires
 cheapest-cost-requires c κs =
-    c .before .before .before .pre .0
+    c .before .pre .0
 
 enum-known-cheapest : tie.Need-enum-known-cheapest
 enum-known-cheapest c =
@@ -24,8 +24,8 @@ enum-known-cheapest c =
 
 sub-excess : tie.Need-sub-excess
 sub-excess c =
-    let args· = c .before .before .before .before .before .before .before .args in
-    let pre· = c .before .before .before .before .before .before .before .pre in
+    let args· = c .before .before .before .before .before .args in
+    let pre· = c .before .before .before .before .before .pre in
     let plan-cost· = c .before .before .before .before .plan-cost in
     let cheapest-cost· = c .before .before .before .cheapest-cost in
     let cheapest· = c .before .cheapest in
@@ -41,8 +41,8 @@ enum-known-cheapest-2 c =
 
 returns : tie.Need-returns
 returns c =
-    let args· = c .before .before .before .before .before .before .before .args in
-    let pre· = c .before .before .before .before .before .before .before .pre in
+    let args· = c .before .before .before .before .before .args in
+    let pre· = c .before .before .before .before .before .pre in
     let plan-cost· = c .before .before .before .before .plan-cost in
     let cheapest-cost· = c .before .before .before .cheapest-cost in
     let cheapest· = c .before .cheapest in
@@ -50,15 +50,15 @@ returns c =
 
 returns-2 : tie.Need-returns-2
 returns-2 c =
-    let args· = c .before .before .before .before .before .before .args in
-    let pre· = c .before .before .before .before .before .before .pre in
+    let args· = c .before .before .before .before .args in
+    let pre· = c .before .before .before .before .pre in
     let cheapest-cost· = c .before .before .cheapest-cost in
     none-scored (args· .start .net) (stepsOf (args· .plan)) (pre· .0 .formed) (pre· .0 .starts) (pre· .1 .1) _ (c .before .before .before .plan-cost .ensures) (cheapest-cost· .result) (cheapest-cost· .ensures) (c .enum-told .given .1) _
 
 returns-3 : tie.Need-returns-3
 returns-3 c =
-    let args· = c .before .before .before .before .before .before .before .args in
-    let pre· = c .before .before .before .before .before .before .before .pre in
+    let args· = c .before .before .before .before .before .args in
+    let pre· = c .before .before .before .before .before .pre in
     let plan-cost· = c .before .before .before .before .plan-cost in
     let cheapest-cost· = c .before .before .before .cheapest-cost in
     refused-scored (args· .start .net) (stepsOf (args· .plan)) (pre· .0 .formed) (pre· .0 .starts) (pre· .1 .1) _ (plan-cost· .ensures) (cheapest-cost· .result) (cheapest-cost· .ensures) _ (c .before .cheapest2 .given .1) _
