@@ -1,7 +1,7 @@
 #!/usr/bin/env python3
 """Writes the files of this folder: the networks of document 01, "Tried networks", with plans for them, network B in
-volt-amperes, and the largest network with the longest plan; and the standard input that the gate gives to `plan` (B)
-and to `mark` (B with the plan of case 8)."""
+volt-amperes and with a guarded switch, and the largest network with the longest plan; and the standard input that the
+gate gives to `plan` (B) and to `mark` (B with the plan of case 8)."""
 import os
 import struct
 
@@ -21,9 +21,16 @@ def element(load, capacity, flags):
     return (7, load % 65536, load // 65536, capacity % 65536, capacity // 65536, flags)
 
 
+def link(end, other, form, cost, guard=None):
+    """Kind 3, or kind 8 with its guard, the number of an earlier switch, where one is given."""
+    if guard is None:
+        return (3, end, other, form, cost)
+    return (8, end, other, form, cost, guard)
+
+
 def network(elements, links):
-    """Kind 1 head, elements (load, capacity, flags), kind 3 links (two ends, form, cost), kind 4 end."""
-    return records((1, len(elements), len(links)), *(element(*e) for e in elements), *((3, *l) for l in links), (4,))
+    """Kind 1 head, elements (load, capacity, flags), links (two ends, form, cost, and a guard or none), kind 4 end."""
+    return records((1, len(elements), len(links)), *(element(*e) for e in elements), *(link(*l) for l in links), (4,))
 
 
 def plan(*steps):
@@ -44,7 +51,9 @@ def largest():
 
 
 B_LINKS = [(0, 1, CLOSED, 1), (1, 2, OPEN, 1), (2, 3, OPEN, 1), (3, 4, OPEN, 4), (1, 3, OPEN, 2)]
-B = network([(0, 5, 1), (2, 9, 0), (1, 9, 2), (3, 9, 0), (0, 3, 1)], B_LINKS)
+B_ELEMENTS = [(0, 5, 1), (2, 9, 0), (1, 9, 2), (3, 9, 0), (0, 3, 1)]
+B = network(B_ELEMENTS, B_LINKS)
+B_GUARDED = network(B_ELEMENTS, B_LINKS[:4] + [(*B_LINKS[4], 0)])
 B_VA = network([(0, 500000, 1), (200000, 900000, 0), (1, 9, 2), (300000, 900000, 0), (0, 3, 1)], B_LINKS)
 D = network(
     [(0, 2, 1), (2, 9, 0), (2, 9, 0), (0, 2, 1)],
@@ -53,7 +62,8 @@ D = network(
 CLOSE_3 = plan((3, 1))
 LARGEST, LONGEST = largest()
 FILES = {
-    "b.net": B, "b_va.net": B_VA, "d.net": D, "close_3.plan": CLOSE_3, "largest.net": LARGEST, "largest.plan": LONGEST
+    "b.net": B, "b_va.net": B_VA, "b_guarded.net": B_GUARDED, "d.net": D, "close_3.plan": CLOSE_3,
+    "largest.net": LARGEST, "largest.plan": LONGEST
 }
 
 if __name__ == "__main__":

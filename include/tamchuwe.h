@@ -18,23 +18,28 @@
  *     link          12, 3, two different elements, form (0 fixed, 1 open switch, 2 closed switch), cost (0 for fixed,
  *                   else 1 to 65535)
  *     wide element  14, 7, own load (four bytes), capacity (four bytes), flags: wherever an element may stand
+ *     guarded       14, 8, two different elements, form (1 open switch, 2 closed switch), cost (1 to 65535), guard (the
+ *       switch      number of an earlier link that is a switch): wherever a link may stand
  *     end            4, 4
  *     plan head      6, 5, steps (0 to 255)
  *     step           8, 6, link, state wanted (0 open, 1 closed: not the numbers of a link's form)
  * A network file is one head, its elements, its links, one end; a plan file one plan head, its steps, one end.
- * Elements and links are numbered from 0 in file order, steps from 1. An accepted network file has at most 2060 bytes,
- * an accepted input of the judge at most 4110; the first 8192 bytes of an input decide.
+ * Elements and links are numbered from 0 in file order, steps from 1. A guarded switch has its ends at byte 4 and 6 of
+ * its record, its form at 8, its cost at 10, as a link has, and its guard at 12. An accepted network file has at most
+ * 2252 bytes, an accepted input of the judge at most 4302; the first 8192 bytes of an input decide.
  *
- * REFUSALS. What breaks a rule is answered by the first that it breaks, with its number and a place. Rules 1 to 12
- * are asked of each record of the whole input in turn, then 13, then 14 to 18 of the network, in this order. The place
- * of 1 to 12 is the offset of the record's first byte, counted from the first byte of the input, in the plan file too.
- *      1 fewer than four bytes where a record is due      8 a form above 2
+ * REFUSALS. What breaks a rule is answered by the first that it breaks, with its number and a place. Rules 1 to 12 and
+ * 20 are asked of each record of the whole input in turn, 20 directly behind 9, then 13, then 14 to 18 of the network,
+ * in this order. The place of 1 to 12 and 20 is the offset of the record's first byte, counted from the first byte of
+ * the input, in the plan file too.
+ *      1 fewer than four bytes where a record is due      8 a form above 2; of a guarded switch also form 0
  *      2 a kind that may not come here                    9 a cost that does not suit the form
- *      3 not the kind's length                           10 more than 255 steps
- *      4 fewer bytes than the length                     11 a step's link does not exist
- *      5 elements or links out of range                  12 a step's state above 1
- *      6 flags above 3                                   13 a byte behind the last end record (its offset)
+ *      3 not the kind's length                           20 a guard that is not an earlier switch
+ *      4 fewer bytes than the length                     10 more than 255 steps
+ *      5 elements or links out of range                  11 a step's link does not exist
+ *      6 flags above 3                                   12 a step's state above 1
  *      7 a link's end that does not exist, or equal ends
+ *     13 a byte behind the last end record (its offset)
  *     14 at the start a part is not a tree (its lowest element)
  *     15 at the start two sound sources in a part (the lowest such source)
  *     16 at the start a fault in a part with a sound source (the lowest such fault)
@@ -42,7 +47,7 @@
  *     18 more than 12 operable switches (their count)
  *     19 (tamchuwe_plan alone) the buffer is shorter than the plan file (the length needed)
  *
- * TERMS (of the customer's document 01; crates/feeding/specs/ has them as definitions).
+ * TERMS (of the customer's documents 01 and 02; crates/feeding/specs/ has them as definitions).
  *     part          elements that closed links join; fixed links are always closed
  *     sound source  a source that is not faulty
  *     live          in a part with a sound source; else dark
@@ -54,8 +59,12 @@
  *                   unspoiled source
  *     operable      a switch with at least one end that is dark and restorable at the start
  *     valid plan    steps that each operate an operable switch into the state that it has not, through safe
- *                   configurations, after which every restorable element is live; a step costs what its switch's
- *                   record states, at each operation
+ *                   configurations, after which every restorable element is live
+ *     cost          of a plan: for each step what its switch's record states, at each operation; and for each link that
+ *                   is the guard of an operated switch twice its own cost, once, however many of its switches are
+ *                   operated and how often. That a guard opens and closes again while its switch is operated is no
+ *                   step: nothing is asked of it, and the guard's own guard is paid for only where a step operates the
+ *                   guard
  *
  * LINES. The planner's: PLAN steps cost, then OPEN link or CLOSE link for each step, then LOAD fed dark lost; or
  * NONE, then LOAD fed dark lost. The judge's: VALID cost excess, SHORT element or BROKEN step reason. Either's, where
