@@ -1,5 +1,5 @@
 // Runs readers, writer, planner and judge on the cases of standard input and prints what each gets. Standard input says how a case is written,
-// and the expected output was derived by hand from document 01.
+// and the expected output was derived by hand from documents 01 and 02.
 use file_plan::plan::Plan;
 use file_writer::Written;
 use libc::STDIN_FILENO;
@@ -114,6 +114,7 @@ fn entries(bytes: &[u8]) {
     field(wide16(net.to[3]));
     field(wide16(net.form[3]));
     field(wide16(net.cost[3]));
+    field(wide16(net.guard[3]));
     text(b"\n");
 }
 
