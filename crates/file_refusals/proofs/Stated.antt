@@ -43,7 +43,7 @@ filled d (suc k) zero = refl
 filled d (suc k) (suc i) = filled d k i
 
 -- what stands within a list does not hang on what stands behind its end
-within : {A : Type 0} (d d′ : A) (l : List A) (i : ℕ) → i < length l → getD l i d ≡ getD l i d′
+pub within : {A : Type 0} (d d′ : A) (l : List A) (i : ℕ) → i < length l → getD l i d ≡ getD l i d′
 within d d′ [] i h = absurd (omega (arith, h))
 within d d′ (x ∷ xs) zero h = refl
 within d d′ (x ∷ xs) (suc i) h = within d d′ xs i (omega (arith, h))

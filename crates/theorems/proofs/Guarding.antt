@@ -1,12 +1,15 @@
 -- Rule 20 in a whole input: where it is the first broken, the records before stand and a record of kind 8 follows; by the first break of a run of records, and since
--- kind 8 may come among links alone.
+-- kind 8 may come among links alone. And where each link's record stands.
 -- Assumes nothing.
 use mathlib.Core.Path.{_≡_, refl, sym, ap, subst}
+use mathlib.Core.Bool.{Bool, true, false}
 use mathlib.Core.List.{List, [], _∷_, _++_}
 use mathlib.Core.Logic.{inr}
-use Prim.Native.Nat.{ℕ, zero, suc, _+_, _≤_}
+use Prim.Native.Nat.{ℕ, zero, suc, _+_, _<_, _≤_}
 use native.Mathlib.Omega.{arith}
+use lib.Dec.{eqb}
 use lib.ListN.{replicate}
+use borrow.Author.Tests.{eqb-true, eqb-false}
 use Rattle.network.specs.declared.refusal.Rule.{Rule}
 use Rattle.network.specs.declared.refusal.Rule.the-variants.{KindOutOfPlace, BadGuard}
 use Rattle.network.specs.declared.refusal.Refusal.{Refusal}
@@ -14,11 +17,12 @@ use Rattle.network.specs.declared.refusal.Answer.{Answer}
 use Rattle.network.specs.declared.refusal.Answer.the-variants.{Accepted, Refused}
 use Rattle.network.specs.Refusals.{position, ruleNumber}
 use Rattle.file_stages.specs.declared.Stage.{Stage}
-use Rattle.file_stages.specs.declared.Stage.the-variants.{Links, PlanHead, Steps, PlanEnd}
+use Rattle.file_stages.specs.declared.Stage.the-variants.{Head, Elements, Links, End, PlanHead, Steps, PlanEnd}
 use Rattle.file_fields.specs.Fields.{word}
-use Rattle.file_refusals.specs.Breaking.{BreaksFirst}
-use Rattle.file_refusals.specs.Files.{planStages, Stand, none, next, FirstBreak, here, later, NetworkBreaks, in-file, behind, in-network, in-plan, behind-plan}
-use Rattle.file_refusals.proofs.Files.{break-behind}
+use Rattle.file_records.specs.Records.{kindField}
+use Rattle.file_refusals.specs.Breaking.{BreaksFirst, Keeps, MayCome, behind-link, behind-guarded-link}
+use Rattle.file_refusals.specs.Files.{KeepsNetwork, planStages, Stand, none, next, FirstBreak, here, later, NetworkBreaks, in-file, behind, in-network, in-plan, behind-plan}
+use Rattle.file_refusals.proofs.Files.{stand-append, break-behind}
 use Rattle.file_refusals.proofs.Record.{link-stage}
 use Rattle.feeding.specs.Networks.{Net}
 use Rattle.feeding.specs.Acceptance.{Answered}
@@ -109,3 +113,35 @@ module _ (s : List ℕ) where
   first-guard-both f e (Judging.FirstRuleBoth.in-bytes (in-plan {at = at} _ b)) = absurd (plan-unguarded s (word s 4) (word s 6) (word s (at + 4)) e b)
   first-guard-both _ e (Judging.FirstRuleBoth.in-bytes (behind-plan _ _ _)) = absurd (omega (arith, ap ruleNumber e))
   first-guard-both f e (Judging.FirstRuleBoth.in-network n p _ h) = absurd (omega (arith, ap ruleNumber e, answered-number _ f h))
+
+-- ---- the record of each link of a file that keeps the rules
+
+module _ (s : List ℕ) (E K : ℕ) where
+  stand-split : (a b : List Stage) {at end : ℕ} → Stand s E K (a ++ b) at end → (mid : ℕ) × Stand s E K a at mid × Stand s E K b mid end
+  stand-split [] b {at = at} st = (at, none, st)
+  stand-split (x ∷ a) b (next k st) = let r = stand-split a b st in (r .0, next k (r .1), r .2)
+
+  stand-links : (n l : ℕ) (b : List Stage) {at end : ℕ} → l < n → Stand s E K (replicate n Links ++ b) at end
+      → (mid : ℕ) × Stand s E K (replicate l Links) at mid × Keeps s E K mid Links
+  stand-links zero l b h st = absurd (omega arith)
+  stand-links (suc n) zero b {at = at} h (next k st) = (at, none, k)
+  stand-links (suc n) (suc l) b h (next k st) = let r = stand-links n l b (omega arith) st in (r .0, next k (r .1), r .2)
+
+  -- a link's record that is not of kind 8 is of kind 3
+  other-link : (at : ℕ) → Keeps s E K at Links → ¬ (kindField s at ≡ 8) → kindField s at ≡ 3
+  other-link at keeps other = go (eqb (kindField s at) 3) refl
+    where
+      neither : (kind : ℕ) → ¬ (kind ≡ 3) → ¬ (kind ≡ 8) → ¬ MayCome Links kind
+      neither _ a b (_, behind-link) = a refl
+      neither _ a b (_, behind-guarded-link) = b refl
+
+      go : (t : Bool) → eqb (kindField s at) 3 ≡ t → kindField s at ≡ 3
+      go true t = eqb-true (kindField s at) 3 t
+      go false t = absurd (keeps KindOutOfPlace (neither (kindField s at) (eqb-false (kindField s at) 3 t) other))
+
+pub link-placed : (s : List ℕ) → KeepsNetwork s → (l : ℕ) → l < word s 6
+    → (at : ℕ) × Stand s (word s 4) (word s 6) ((Head ∷ replicate (word s 4) Elements) ++ replicate l Links) 0 at × (¬ (kindField s at ≡ 8) → kindField s at ≡ 3)
+link-placed s keeps l lt =
+    let r = stand-split s (word s 4) (word s 6) (Head ∷ replicate (word s 4) Elements) (replicate (word s 6) Links ++ (End ∷ [])) keeps in
+    let q = stand-links s (word s 4) (word s 6) (word s 6) l (End ∷ []) lt (r .2) in
+    (q .0, stand-append s (word s 4) (word s 6) (r .1) (q .1), other-link s (word s 4) (word s 6) (q .0) (q .2))

@@ -12,7 +12,7 @@ use borrow.Author.Tests.{le-ltb}
 use Rattle.network.specs.declared.Network.{Network}
 use Rattle.network.specs.declared.refusal.Rule.the-variants.{KindOutOfPlace, WrongLength, UnknownForm, UnsuitedCost, TooManySteps, BadGuard}
 use Rattle.network.specs.Networks.{noGuard}
-use Rattle.network.specs.Accepted.{GuardSuits}
+use Rattle.network.specs.Accepted.{WellFormed, GuardSuits}
 use Rattle.network.specs.Refusals.{Sooner, position}
 use Rattle.network.proofs.Order.{guard-after-cost}
 use Rattle.file_stages.specs.declared.Stage.{Stage}
@@ -32,6 +32,7 @@ use Rattle.file_refusals.specs.Stated.{LinkIs, unguarded, guarded}
 use Rattle.file_refusals.proofs.Files.{stand-unbroken}
 use Rattle.file_refusals.proofs.Record.{comes-next, in-table, length-only}
 use Rattle.file_refusals.proofs.Reading.{file-formed}
+use Rattle.file_refusals.proofs.Stated.{within}
 use Rattle.texts.specs.Texts.{refusedLine, lineOf}
 use Rattle.feeding.specs.Networks.{Net, netOf, gridOf, at}
 use Rattle.feeding.specs.Plans.{Step, ValidPlan, operations}
@@ -53,7 +54,7 @@ use Rattle.judge.specs.Judging.{AcceptedPlan, FirstRuleBoth}
 use Rattle.judge.specs.Judging as Judging
 use Rattle.theorems.proofs.AsEver as AsEver
 use Rattle.theorems.proofs.Exactly as Exactly
-use Rattle.theorems.proofs.Guarding.{guard-breaks, first-guard, first-guard-both}
+use Rattle.theorems.proofs.Guarding.{guard-breaks, first-guard, first-guard-both, link-placed}
 use Rattle.planner.specs.Replies.{planTextOf}
 use Rattle.theorems.proofs.Words.{printed-promises}
 use Rattle.theorems.specs.Words.{planText, markText, planTextBy, markTextBy, itemOne, GuardRefused}
@@ -213,12 +214,22 @@ module _ (s : List ℕ) where
   pub judge-as-ever : KnownThere itemOne s (bothInputBy itemOne s) → markText s ≡ markTextBy itemOne s
   judge-as-ever = AsEver.judge-as-ever itemOne s
 
-  -- a network none of whose links has a guard
-  pub cost-as-ever : (bytes : Bytes s) (n : Network) → AcceptedNetwork s n → ((l : ℕ) → l < n .links → getD (n .guard) l 0 ≡ noGuard)
+  -- the cost of any steps in a network whose file has no link of kind 8
+  pub cost-as-ever : (bytes : Bytes s) (n : Network) → AcceptedNetwork s n
+      → ((l at : ℕ) → l < word s 6 → Stand s (word s 4) (word s 6) ((Head ∷ replicate (word s 4) Elements) ++ replicate l Links) 0 at → ¬ (kindField s at ≡ 8))
       → (q : List Step) → Costs (netOf n) q (stepsCost (netOf n) q)
   unfolding netOf gridOf
-  cost-as-ever bytes n a free q =
-      steps-alone (netOf n) q (λ l k _ has. let few = file-formed s bytes n (a .file) .links-fit in omega (arith, free l k))
+  cost-as-ever bytes n a without q = steps-alone (netOf n) q (λ l k _ has. omega (arith, free l k, formed .links-fit))
+    where
+      formed : WellFormed n
+      formed = file-formed s bytes n (a .file)
+
+      free : (l : ℕ) → l < n .links → getD (n .guard) l 0 ≡ noGuard
+      free l k =
+          let lt : l < word s 6 = omega (arith, a .file .states .links) in
+          let r = link-placed s (a .file .keeps) l lt in
+          within 0 noGuard (n .guard) l (omega (arith, formed .guard-long, formed .links-fit))
+          ∙ link-unguarded s bytes n a l (r .0) lt (r .1) (r .2 (without l (r .0) lt (r .1))) .guard-is
 
 -- ---- lengths: kind 8 lets accepted input be longer than item 1 did
 
