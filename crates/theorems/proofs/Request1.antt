@@ -20,8 +20,8 @@ use Rattle.file_fields.specs.Fields.{word, wideWord, lengthOf}
 use Rattle.file_records.specs.declared.Found.the-variants as Found·
 use Rattle.file_records.specs.Records.{kindField, lengthField, dueBy, dueAt}
 use Rattle.file_records.proofs.Known as Known
+use Rattle.file_network.specs.Runs.{refused}
 use Rattle.file_network.specs.Inputs.{networkInputBy}
-use Rattle.file_network.proofs.Known.{KnownThere}
 use Rattle.file_both.specs.declared.BothRead.{BothRead}
 use Rattle.file_network.specs.declared.NetworkRead.{NetworkRead}
 use Rattle.file_both.specs.Inputs.{bothInputBy}
@@ -135,13 +135,16 @@ pub unknown-record : (s : List ℕ) (seen : Seen) (at : ℕ) (stage : Stage) →
 unknown-record s seen at stage h four = Known.unknown-record documentOne s seen at stage (ap documentOne h) (le-ltb (length s - at) 4 (omega arith))
 
 module _ (s : List ℕ) where
-  pub library-as-ever : KnownThere documentOne s (networkInputBy documentOne s) → outcome s ≡ outcomeBy documentOne s
+  pub library-as-ever : ((place : ℕ) → networkInputBy documentOne s ≡ refused (record { rule = KindOutOfPlace; place = place }) → documentOne (kindField s place) ≡ true)
+      → outcome s ≡ outcomeBy documentOne s
   library-as-ever = AsEver.library-as-ever documentOne s
 
-  pub planner-as-ever : KnownThere documentOne s (networkInputBy documentOne s) → planText s ≡ planTextBy documentOne s
+  pub planner-as-ever : ((place : ℕ) → networkInputBy documentOne s ≡ refused (record { rule = KindOutOfPlace; place = place }) → documentOne (kindField s place) ≡ true)
+      → planText s ≡ planTextBy documentOne s
   planner-as-ever = AsEver.planner-as-ever documentOne s
 
-  pub judge-as-ever : KnownThere documentOne s (bothInputBy documentOne s) → markText s ≡ markTextBy documentOne s
+  pub judge-as-ever : ((place : ℕ) → bothInputBy documentOne s ≡ refused (record { rule = KindOutOfPlace; place = place }) → documentOne (kindField s place) ≡ true)
+      → markText s ≡ markTextBy documentOne s
   judge-as-ever = AsEver.judge-as-ever documentOne s
 
 -- ---- "and a narrow element rewritten as kind 7 changes no printed line of a file that passes rules 1 to 13.": one after the other, any number of elements;

@@ -12,7 +12,7 @@ use borrow.Author.Tests.{le-ltb}
 use Rattle.network.specs.declared.Network.{Network}
 use Rattle.network.specs.declared.refusal.Rule.the-variants.{KindOutOfPlace, WrongLength, UnknownForm, UnsuitedCost, TooManySteps, BadGuard}
 use Rattle.network.specs.Networks.{noGuard}
-use Rattle.network.specs.Accepted.{WellFormed, GuardSuits}
+use Rattle.network.specs.Accepted.{WellFormed}
 use Rattle.network.specs.Refusals.{Sooner, position}
 use Rattle.network.proofs.Order.{guard-after-cost}
 use Rattle.file_stages.specs.declared.Stage.{Stage}
@@ -23,8 +23,8 @@ use Rattle.file_fields.specs.Fields.{word, lengthOf}
 use Rattle.file_records.specs.declared.Found.the-variants as Found·
 use Rattle.file_records.specs.Records.{kindField, lengthField, dueBy, dueAt}
 use Rattle.file_records.proofs.Known as Known
+use Rattle.file_network.specs.Runs.{refused}
 use Rattle.file_network.specs.Inputs.{networkInputBy}
-use Rattle.file_network.proofs.Known.{KnownThere}
 use Rattle.file_both.specs.Inputs.{bothInputBy}
 use Rattle.file_refusals.specs.Breaking.{ComesNext, KindLength, guarded-link, BreaksRule}
 use Rattle.file_refusals.specs.Files.{Stand, KeepsNetwork, KeepsBoth}
@@ -92,8 +92,8 @@ module _ (s : List ℕ) (bytes : Bytes s) (n : Network) (a : AcceptedNetwork s n
   link-unguarded three = a .file .states .link l at _ lt stand (unguarded three)
 
 pub guard-earlier : (s : List ℕ) → Bytes s → (n : Network) → AcceptedNetwork s n → (l : ℕ) → l < n .links → getD (n .guard) l 0 < noGuard
-    → GuardSuits n l (getD (n .guard) l 0)
-guard-earlier s bytes n a = file-formed s bytes n (a .file) .guarded
+    → ¬ (getD (n .form) l 0 ≡ 0) × ((getD (n .guard) l 0 < l) × ¬ (getD (n .form) (getD (n .guard) l 0) 0 ≡ 0))
+guard-earlier s bytes n a l k has = let g = file-formed s bytes n (a .file) .guarded l k has in (g .switch, (g .earlier, g .guards))
 
 -- ---- "A plan's cost gains twice the guard's own cost, once for each guard however many of its switches are operated."
 
@@ -205,13 +205,16 @@ pub unknown-record : (s : List ℕ) (seen : Seen) (at : ℕ) (stage : Stage) →
 unknown-record s seen at stage h four = Known.unknown-record itemOne s seen at stage (ap itemOne h) (le-ltb (length s - at) 4 (omega arith))
 
 module _ (s : List ℕ) where
-  pub library-as-ever : KnownThere itemOne s (networkInputBy itemOne s) → outcome s ≡ outcomeBy itemOne s
+  pub library-as-ever : ((place : ℕ) → networkInputBy itemOne s ≡ refused (record { rule = KindOutOfPlace; place = place }) → itemOne (kindField s place) ≡ true)
+      → outcome s ≡ outcomeBy itemOne s
   library-as-ever = AsEver.library-as-ever itemOne s
 
-  pub planner-as-ever : KnownThere itemOne s (networkInputBy itemOne s) → planText s ≡ planTextBy itemOne s
+  pub planner-as-ever : ((place : ℕ) → networkInputBy itemOne s ≡ refused (record { rule = KindOutOfPlace; place = place }) → itemOne (kindField s place) ≡ true)
+      → planText s ≡ planTextBy itemOne s
   planner-as-ever = AsEver.planner-as-ever itemOne s
 
-  pub judge-as-ever : KnownThere itemOne s (bothInputBy itemOne s) → markText s ≡ markTextBy itemOne s
+  pub judge-as-ever : ((place : ℕ) → bothInputBy itemOne s ≡ refused (record { rule = KindOutOfPlace; place = place }) → itemOne (kindField s place) ≡ true)
+      → markText s ≡ markTextBy itemOne s
   judge-as-ever = AsEver.judge-as-ever itemOne s
 
   -- the cost of any steps in a network whose file has no link of kind 8
