@@ -8,6 +8,7 @@ ghost use lib.Dec.{eqb, ltb, leb};
 ghost use lib.ListN.{length};
 ghost use Rattle.network.specs.Refusals.{firstBroken};
 ghost use Rattle.network.specs.Accepted.{suits};
+ghost use Rattle.file_fields.specs.Views.{seenOf};
 ghost use Rattle.file_fields.specs.Fields.{word, wideWord, lengthOf, either, headRules, flagsRules, plainLinkRules, linkRules, unknownForm, badGuard, planHeadRules, stepRules, fieldRules};
 
 // What a record's rules may ask of what was read before it: how many elements and links the network has so far, and the links' forms.
@@ -120,16 +121,16 @@ fn unknown_form(kind: u16, form: u16) -> bool
 }
 
 // A guard that is no earlier link, or a fixed one.
-fn bad_guard(seen: Seen, guard: usize) -> bool
-    ensures { λ r. ⌜ r ≡ badGuard seen guard ⌝ }
+fn bad_guard(links: usize, form: &[u16], guard: usize) -> bool
+    ensures { λ r. ⌜ r ≡ badGuard (seenOf 0 links (now (form .entry))) guard ⌝ }
 {
-    if seen.links <= guard {
+    if links <= guard {
         return true;
     }
-    if Network::MAX_LINKS <= guard {
+    if form.len() <= guard {
         return true;
     }
-    seen.form[guard] == 0
+    form[guard] == 0
 }
 
 // Rules 7 to 9.
@@ -153,16 +154,16 @@ fn link_rules(s: &[u8], at: usize, kind: u16, elements: usize) -> Verdict
 }
 
 // Rules 7 to 9, then rule 20, of a guarded switch.
-fn guarded_link_rules(s: &[u8], at: usize, seen: Seen) -> Verdict
+fn guarded_link_rules(s: &[u8], at: usize, elements: usize, links: usize, form: &[u16]) -> Verdict
     requires { ⌜ at + 14 ≤ length (now s) ⌝ }
-    ensures { λ r. ⌜ r ≡ firstBroken (linkRules (now (s .entry)) at 8 seen) ⌝ }
+    ensures { λ r. ⌜ r ≡ firstBroken (linkRules (now (s .entry)) at 8 (seenOf elements links (now (form .entry)))) ⌝ }
 {
-    let verdict = link_rules(s, at, 8, seen.elements);
+    let verdict = link_rules(s, at, 8, elements);
     let Verdict::Kept = verdict else {
         return verdict;
     };
     let guard = word_at(s, at + 12) as usize;
-    if bad_guard(seen, guard) {
+    if bad_guard(links, form, guard) {
         return Verdict::Broken(Rule::BadGuard);
     }
     Verdict::Kept
@@ -196,9 +197,16 @@ fn step_rules(s: &[u8], at: usize, links: usize) -> Verdict
 }
 
 // Rules 5 to 12 and 20, those that speak of a record of this kind.
-pub fn field_rules(s: &[u8], at: usize, kind: u16, seen: Seen) -> Verdict
+pub fn field_rules(
+    s: &[u8],
+    at: usize,
+    kind: u16,
+    elements: usize,
+    links: usize,
+    form: &[u16],
+) -> Verdict
     requires { ⌜ at + lengthOf kind ≤ length (now s) ⌝ }
-    ensures { λ r. ⌜ r ≡ firstBroken (fieldRules (now (s .entry)) at kind seen) ⌝ }
+    ensures { λ r. ⌜ r ≡ firstBroken (fieldRules (now (s .entry)) at kind (seenOf elements links (now (form .entry)))) ⌝ }
 {
     match kind {
         1 => {
@@ -208,19 +216,19 @@ pub fn field_rules(s: &[u8], at: usize, kind: u16, seen: Seen) -> Verdict
             return flags_rules(s, at + 8);
         }
         3 => {
-            return link_rules(s, at, 3, seen.elements);
+            return link_rules(s, at, 3, elements);
         }
         5 => {
             return plan_head_rules(s, at);
         }
         6 => {
-            return step_rules(s, at, seen.links);
+            return step_rules(s, at, links);
         }
         7 => {
             return flags_rules(s, at + 12);
         }
         8 => {
-            return guarded_link_rules(s, at, seen);
+            return guarded_link_rules(s, at, elements, links, form);
         }
         _ => {
             return Verdict::Kept;

@@ -1,6 +1,6 @@
 -- Where not every kind is known, a file is read as ever but for a refusal by rule 2 at a record of an unknown kind: one record by its law, a run by induction, and step by step.
 -- Assumes nothing.
-use mathlib.Core.Path.{_≡_, refl, sym, ap, subst, _∙_}
+use mathlib.Core.Path.{_≡_, refl, sym, ap, _∙_}
 use mathlib.Core.Bool.{Bool, true, false}
 use mathlib.Core.List.{List}
 use Prim.Native.Nat.{ℕ, zero, suc, _+_}

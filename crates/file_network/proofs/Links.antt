@@ -4,11 +4,13 @@ use mathlib.Core.Path.{_≡_, sym, _∙_}
 use mathlib.Core.List.{List}
 use Prim.Native.Nat.{ℕ, _+_}
 use native.Mathlib.Omega.{arith}
+use Rattle.network.specs.declared.Network.{Network}
 use Rattle.network.specs.Networks.{noGuard}
 use Rattle.file_stages.specs.declared.Stage.{Stage}
 use Rattle.file_stages.specs.declared.Stage.the-variants.{Links}
 use Rattle.file_fields.specs.declared.Seen.{Seen}
 use Rattle.file_fields.specs.Fields.{word, lengthOf}
+use Rattle.file_fields.specs.Views.{seenOf, networkSeen}
 use Rattle.file_records.specs.declared.Found.{Found}
 use Rattle.file_records.specs.declared.Found.the-variants.{Record}
 use Rattle.file_records.specs.Records.{kindField, dueAt}
@@ -42,3 +44,13 @@ pub link-turn :
 link-turn s seen at stage found kind long next due e h =
     let here : dueAt s seen at Links ≡ Record kind long next = rw e at (sym due ∙ h) in
     link-there (due-kept s seen at Links here .framed)
+
+-- the view that is handed on in parts is that of the network read so far
+pub due-seen :
+    (s : List ℕ) (at : ℕ) (stage : Stage) (n : Network) (e : ℕ) (form : List ℕ) (found : Found) →
+    n .elements ≡ e →
+    form ≡ n .form →
+    found ≡ dueAt s (seenOf e (n .links) form) at stage →
+    found ≡ dueAt s (networkSeen n) at stage
+unfolding networkSeen
+due-seen s at stage n e form found same same-form due = rw (same, ← same-form) due

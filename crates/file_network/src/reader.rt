@@ -1,9 +1,8 @@
 // The network file: one head, its elements, its links, one end.
-use file_fields::Seen;
 use file_fields::wide_word_at;
 use file_fields::word_at;
-use file_reader::record_due;
 use file_records::Found;
+use file_records::record_due;
 use file_stages::Stage;
 use file_stages::after_last;
 use network::Element;
@@ -120,12 +119,13 @@ fn read_elements(s: &[u8], count: usize, start: usize, first: Stage) -> NetworkP
     requires { ⌜ (count ≤ 64) × (first ≡ Elements) ⌝ }
     ensures { λ r. ⌜ r ≡ networkPart (records (now (s .entry)) (always nothingSeen) (withElement (now (s .entry))) count start first emptyNetwork) ⌝ }
 {
+    let none: [u16; 96] = [0; 96];
     let mut net = Network::empty();
     let mut at = start;
     let mut stage = first;
     let mut left = count;
     while 0 < left {
-        let found = record_due(s, at, stage, Seen::NOTHING);
+        let found = record_due(s, at, stage, 0, 0, &none);
         match found {
             Found::Refused(refusal) => {
                 return refused_network(refusal);
@@ -155,17 +155,13 @@ fn read_links(s: &[u8], count: usize, start: usize, first: Stage, elements: Netw
     ensures { λ r. ⌜ r ≡ networkPart (records (now (s .entry)) networkSeen (withLink (now (s .entry))) count start first elements) ⌝ }
 {
     let e = elements.elements;
+    let mut form = elements.form;
     let mut net = elements;
     let mut at = start;
     let mut stage = first;
     let mut left = count;
     while 0 < left {
-        let seen = Seen {
-            elements: e,
-            links: net.links,
-            form: net.form,
-        };
-        let found = record_due(s, at, stage, seen);
+        let found = record_due(s, at, stage, e, net.links, &form);
         match found {
             Found::Refused(refusal) => {
                 return refused_network(refusal);
@@ -175,6 +171,7 @@ fn read_links(s: &[u8], count: usize, start: usize, first: Stage, elements: Netw
                 let i = net.links;
                 net.from[i] = link.from;
                 net.to[i] = link.to;
+                form[i] = link.form;
                 net.form[i] = link.form;
                 net.cost[i] = link.cost;
                 net.guard[i] = link.guard;
@@ -194,7 +191,8 @@ fn read_links(s: &[u8], count: usize, start: usize, first: Stage, elements: Netw
 fn end_on(s: &[u8], at: usize, stage: Stage, net: Network) -> NetworkPart
     ensures { λ r. ⌜ r ≡ networkPart (endOn (now (s .entry)) at stage net) ⌝ }
 {
-    let found = record_due(s, at, stage, Seen::NOTHING);
+    let none: [u16; 96] = [0; 96];
+    let found = record_due(s, at, stage, 0, 0, &none);
     match found {
         Found::Refused(refusal) => {
             return refused_network(refusal);
@@ -251,7 +249,8 @@ fn elements_on(s: &[u8], at: usize, stage: Stage) -> NetworkPart
 pub fn network_file(s: &[u8]) -> NetworkPart
     ensures { λ r. ⌜ r ≡ networkPart (networkFile (now (s .entry))) ⌝ }
 {
-    let found = record_due(s, 0, Stage::Head, Seen::NOTHING);
+    let none: [u16; 96] = [0; 96];
+    let found = record_due(s, 0, Stage::Head, 0, 0, &none);
     match found {
         Found::Refused(refusal) => {
             return refused_network(refusal);

@@ -1,10 +1,9 @@
 // The plan file: one plan head, its steps, one end.
 use crate::plan::Plan;
-use file_fields::Seen;
 use file_fields::word_at;
 use file_network::reader::Reached;
-use file_reader::record_due;
 use file_records::Found;
+use file_records::record_due;
 use file_stages::Stage;
 use file_stages::after_last;
 use network::refusal::Refusal;
@@ -12,6 +11,7 @@ ghost use mathlib.Core.Path.{_≡_};
 ghost use Prim.Native.Nat.{_+_, _<_, _≤_};
 ghost use lib.ListN.{length};
 ghost use Rattle.file_fields.specs.Fields.{word};
+ghost use Rattle.file_fields.specs.Views.{linksSeen};
 ghost use Rattle.file_network.specs.Runs.{records, always, refused};
 ghost use Rattle.file_plan.specs.PlanFiles.{emptyPlan, withStep, planFile, stepsOn, planEndOn};
 ghost use Rattle.file_plan.specs.Inputs.{planPart};
@@ -33,17 +33,18 @@ fn refused_plan(refusal: Refusal) -> PlanPart
     }
 }
 
-// So many step records from an offset on, by what was read before them.
-fn read_steps(s: &[u8], count: usize, start: usize, first: Stage, seen: Seen) -> PlanPart
+// So many step records from an offset on, in a network of so many links.
+fn read_steps(s: &[u8], count: usize, start: usize, first: Stage, links: usize) -> PlanPart
     requires { ⌜ (count ≤ 255) × (first ≡ Steps) ⌝ }
-    ensures { λ r. ⌜ r ≡ planPart (records (now (s .entry)) (always seen) (withStep (now (s .entry))) count start first emptyPlan) ⌝ }
+    ensures { λ r. ⌜ r ≡ planPart (records (now (s .entry)) (always (linksSeen links)) (withStep (now (s .entry))) count start first emptyPlan) ⌝ }
 {
+    let none: [u16; 96] = [0; 96];
     let mut plan = Plan::empty();
     let mut at = start;
     let mut stage = first;
     let mut left = count;
     while 0 < left {
-        let found = record_due(s, at, stage, seen);
+        let found = record_due(s, at, stage, 0, links, &none);
         match found {
             Found::Refused(refusal) => {
                 return refused_plan(refusal);
@@ -70,10 +71,11 @@ fn read_steps(s: &[u8], count: usize, start: usize, first: Stage, seen: Seen) ->
     }
 }
 
-fn end_of_plan(s: &[u8], at: usize, stage: Stage, seen: Seen, plan: Plan) -> PlanPart
-    ensures { λ r. ⌜ r ≡ planPart (planEndOn (now (s .entry)) seen at stage plan) ⌝ }
+fn end_of_plan(s: &[u8], at: usize, stage: Stage, links: usize, plan: Plan) -> PlanPart
+    ensures { λ r. ⌜ r ≡ planPart (planEndOn (now (s .entry)) (linksSeen links) at stage plan) ⌝ }
 {
-    let found = record_due(s, at, stage, seen);
+    let none: [u16; 96] = [0; 96];
+    let found = record_due(s, at, stage, 0, links, &none);
     match found {
         Found::Refused(refusal) => {
             return refused_plan(refusal);
@@ -92,19 +94,19 @@ fn end_of_plan(s: &[u8], at: usize, stage: Stage, seen: Seen, plan: Plan) -> Pla
     }
 }
 
-fn steps_on(s: &[u8], head: usize, at: usize, stage: Stage, seen: Seen) -> PlanPart
+fn steps_on(s: &[u8], head: usize, at: usize, stage: Stage, links: usize) -> PlanPart
     requires { ⌜ (head + 6 ≤ length (now s)) × (word (now s) (head + 4) ≤ 255) × (stage ≡ Steps) ⌝ }
-    ensures { λ r. ⌜ r ≡ planPart (stepsOn (now (s .entry)) seen head at stage emptyPlan) ⌝ }
+    ensures { λ r. ⌜ r ≡ planPart (stepsOn (now (s .entry)) (linksSeen links) head at stage emptyPlan) ⌝ }
 {
     let count = word_at(s, head + 4) as usize;
-    let part = read_steps(s, count, at, stage, seen);
+    let part = read_steps(s, count, at, stage, links);
     let reached = part.reached;
     match reached {
         Reached::Refused(_) => {
             return part;
         }
         Reached::At(after, next) => {
-            return end_of_plan(s, after, after_last(next), seen, part.plan);
+            return end_of_plan(s, after, after_last(next), links, part.plan);
         }
     }
 }
@@ -113,12 +115,8 @@ fn steps_on(s: &[u8], head: usize, at: usize, stage: Stage, seen: Seen) -> PlanP
 pub fn plan_file(s: &[u8], at: usize, links: usize) -> PlanPart
     ensures { λ r. ⌜ r ≡ planPart (planFile (now (s .entry)) links at) ⌝ }
 {
-    let seen = Seen {
-        elements: 0,
-        links,
-        form: [0; 96],
-    };
-    let found = record_due(s, at, Stage::PlanHead, seen);
+    let none: [u16; 96] = [0; 96];
+    let found = record_due(s, at, Stage::PlanHead, 0, links, &none);
     match found {
         Found::Refused(refusal) => {
             return refused_plan(refusal);
@@ -128,7 +126,7 @@ pub fn plan_file(s: &[u8], at: usize, links: usize) -> PlanPart
             length,
             next,
         } => {
-            return steps_on(s, at, at + length as usize, next, seen);
+            return steps_on(s, at, at + length as usize, next, links);
         }
     }
 }

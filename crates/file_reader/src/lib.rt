@@ -79,10 +79,3 @@ impl<'a> Reader<'a> {
         moved.found
     }
 }
-
-// The record due at an offset of `s`, by a reader that is made for it.
-pub fn record_due(s: &[u8], at: usize, stage: Stage, seen: Seen) -> Found
-    ensures { λ r. ⌜ r ≡ dueAt (now (s .entry)) seen at stage ⌝ }
-{
-    Reader::new(s, at).due(stage, seen)
-}

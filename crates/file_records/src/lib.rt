@@ -12,6 +12,7 @@ ghost use mathlib.Core.Path.{_≡_};
 ghost use Prim.Native.Nat.{_-_};
 ghost use lib.ListN.{length};
 ghost use Rattle.file_fields.specs.Fields.{lengthOf};
+ghost use Rattle.file_fields.specs.Views.{seenOf};
 ghost use Rattle.file_records.specs.Records.{recordAt, dueAt};
 
 // A record, with the stage that the table names after it; or the first rule that it breaks.
@@ -81,14 +82,21 @@ pub fn record_at(s: &[u8], at: usize, stage: Stage) -> Found
 }
 
 // The record due at an offset, by what was read before it: rules 1 to 12 and 20 in their order.
-pub fn due_at(s: &[u8], at: usize, stage: Stage, seen: Seen) -> Found
-    ensures { λ r. ⌜ r ≡ dueAt (now (s .entry)) seen at stage ⌝ }
+pub fn record_due(
+    s: &[u8],
+    at: usize,
+    stage: Stage,
+    elements: usize,
+    links: usize,
+    form: &[u16],
+) -> Found
+    ensures { λ r. ⌜ r ≡ dueAt (now (s .entry)) (seenOf elements links (now (form .entry))) at stage ⌝ }
 {
     let found = record_at(s, at, stage);
     let Found::Record { kind, length, next } = found else {
         return found;
     };
-    let verdict = field_rules(s, at, kind, seen);
+    let verdict = field_rules(s, at, kind, elements, links, form);
     match verdict {
         Verdict::Kept => {
             return Found::Record { kind, length, next };
@@ -97,4 +105,12 @@ pub fn due_at(s: &[u8], at: usize, stage: Stage, seen: Seen) -> Found
             return refused(rule, at);
         }
     }
+}
+
+// The same by a struct of what was read before it.
+pub fn due_at(s: &[u8], at: usize, stage: Stage, seen: Seen) -> Found
+    ensures { λ r. ⌜ r ≡ dueAt (now (s .entry)) seen at stage ⌝ }
+{
+    let form = seen.form;
+    record_due(s, at, stage, seen.elements, seen.links, &form)
 }

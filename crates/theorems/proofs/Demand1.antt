@@ -86,7 +86,7 @@ module _ (s : List ℕ) where
   pub both-broken : (f : Refusal) → (bothRead (bothInput s) ≡ record { answer = Refused f; net = emptyNetwork; plan = emptyPlan }) ↔ FirstBrokenBoth s f
   both-broken = both-handed-out s
 
-  -- and the record reader, by the contract of `record_due`: at an offset where a record is due, the first rule that it breaks, with the offset as its
+  -- and the record reader, by the contracts of `record_due` and `Reader::due`: at an offset where a record is due, the first rule that it breaks, with the offset as its
   -- place, or its kind and length, and the stage that follows; where links stand, what is seen tells which switches stand before it
   pub record-broken : (seen : Seen) (at : ℕ) (stage : Stage) → (stage ≡ Links → SeesSwitches s (seen .elements) at seen) → (f : Refusal)
       → (dueAt s seen at stage ≡ Found·.Refused f) ↔ (BreaksFirst s (seen .elements) (seen .links) at stage (f .rule) × (f .place ≡ at))

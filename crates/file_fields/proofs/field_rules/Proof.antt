@@ -8,35 +8,35 @@ use Rattle.file_fields.proofs.field_rules.Tie as tie
 
 head-rules-requires : tie.Need-head-rules-requires
 unfolding lengthOf
-head-rules-requires c κs = omega (arith, rw (c .match .keys1) at (c .before .before .pre))
+head-rules-requires c κs = omega (arith, rw (c .match .keys1) at (c .before .before .before .pre))
 
 add-flags-rules : tie.Need-add-flags-rules
 unfolding lengthOf
-add-flags-rules c = omega (arith, rw (c .match .keys2) at (c .before .before .pre))
+add-flags-rules c = omega (arith, rw (c .match .keys2) at (c .before .before .before .pre))
 
 flags-rules-requires : tie.Need-flags-rules-requires
 unfolding lengthOf
-flags-rules-requires c κs = omega (arith, rw (c .match .keys2) at (c .before .before .pre))
+flags-rules-requires c κs = omega (arith, rw (c .match .keys2) at (c .before .before .before .pre))
 
 link-rules-requires : tie.Need-link-rules-requires
 unfolding lengthOf
-link-rules-requires c κs = omega (arith, rw (c .match .keys3) at (c .before .before .pre))
+link-rules-requires c κs = omega (arith, rw (c .match .keys3) at (c .before .before .before .pre))
 
 plan-head-rules-requires : tie.Need-plan-head-rules-requires
 unfolding lengthOf
-plan-head-rules-requires c κs = omega (arith, rw (c .match .keys4) at (c .before .before .pre))
+plan-head-rules-requires c κs = omega (arith, rw (c .match .keys4) at (c .before .before .before .pre))
 
 step-rules-requires : tie.Need-step-rules-requires
 unfolding lengthOf
-step-rules-requires c κs = omega (arith, rw (c .match .keys5) at (c .before .before .pre))
+step-rules-requires c κs = omega (arith, rw (c .match .keys5) at (c .before .before .before .pre))
 
 add-flags-rules-2 : tie.Need-add-flags-rules-2
 unfolding lengthOf
-add-flags-rules-2 c = omega (arith, rw (c .match .keys6) at (c .before .before .pre))
+add-flags-rules-2 c = omega (arith, rw (c .match .keys6) at (c .before .before .before .pre))
 
 flags-rules-requires-2 : tie.Need-flags-rules-requires-2
 unfolding lengthOf
-flags-rules-requires-2 c κs = omega (arith, rw (c .match .keys6) at (c .before .before .pre))
+flags-rules-requires-2 c κs = omega (arith, rw (c .match .keys6) at (c .before .before .before .pre))
 
 returns : tie.Need-returns
 unfolding fieldRules headRules
@@ -64,7 +64,7 @@ returns-6 c = rw (c .before .match .keys6) (c .flags-rules2 .ensures)
 
 guarded-link-rules-requires : tie.Need-guarded-link-rules-requires
 unfolding lengthOf
-guarded-link-rules-requires c κs = omega (arith, rw (c .match .keys7) at (c .before .before .pre))
+guarded-link-rules-requires c κs = omega (arith, rw (c .match .keys7) at (c .before .before .before .pre))
 
 returns-7 : tie.Need-returns-7
 unfolding fieldRules linkRules plainLinkRules guardRules
@@ -73,7 +73,7 @@ returns-7 c = rw (c .before .match .keys7) (c .guarded-link-rules .ensures)
 returns-8 : tie.Need-returns-8
 unfolding fieldRules
 returns-8 c =
-    let k = c .before .before .args .kind in
+    let k = c .before .before .before .args .kind in
     simp (
       ne-eqb k 1 (c .match .rest .0 .0 .0 .0 .0 .0 .1),
       ne-eqb k 2 (c .match .rest .0 .0 .0 .0 .0 .1),

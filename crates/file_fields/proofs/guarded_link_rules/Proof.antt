@@ -7,6 +7,7 @@ use native.Mathlib.Omega.{arith}
 use Rattle.network.specs.Refusals.{firstBroken}
 use Rattle.network.proofs.FirstBroken.{elseFirst, first-append}
 use Rattle.file_fields.specs.declared.Seen.{Seen}
+use Rattle.file_fields.specs.Views.{seenOf}
 use Rattle.file_fields.specs.Fields.{linkRules, plainLinkRules, guardRules}
 use borrow.Author.Needs.{needs}
 use Rattle.file_fields.proofs.guarded_link_rules.Statement.{statement}
@@ -28,9 +29,9 @@ enum-told-2 c = search needs
 
 returns : tie.Need-returns
 returns c =
-    let a = c .before .before .before .before .args in
+    let a = c .before .before .before .before .before .args in
     let told = c .enum-told2 .given .1 in
-    rw (in-two (a .s .now) (a .at) (a .seen), sym (c .before .before .link-rules .ensures) ∙ told) told
+    rw (in-two (a .s .now) (a .at) (seenOf (a .elements) (a .links) (a .form .now)), sym (c .before .before .link-rules .ensures) ∙ told) told
 
 add-word-at : tie.Need-add-word-at
 add-word-at c = omega arith
@@ -48,16 +49,16 @@ returns-2 : tie.Need-returns-2
 unfolding guardRules
 returns-2 c =
     let start = c .before .before .before in
-    let a = start .before .before .before .before .args in
-    rw (in-two (a .s .now) (a .at) (a .seen), sym (start .before .before .link-rules .ensures) ∙ start .enum-told .given .1) (
+    let a = start .before .before .before .before .before .args in
+    rw (in-two (a .s .now) (a .at) (seenOf (a .elements) (a .links) (a .form .now)), sym (start .before .before .link-rules .ensures) ∙ start .enum-told .given .1) (
     simp (← c .before .before .word-at .ensures, ← c .before .bad-guard .ensures, c .if1 .taken))
 
 returns-3 : tie.Need-returns-3
 unfolding guardRules
 returns-3 c =
     let start = c .before .before .before in
-    let a = start .before .before .before .before .args in
-    rw (in-two (a .s .now) (a .at) (a .seen), sym (start .before .before .link-rules .ensures) ∙ start .enum-told .given .1) (
+    let a = start .before .before .before .before .before .args in
+    rw (in-two (a .s .now) (a .at) (seenOf (a .elements) (a .links) (a .form .now)), sym (start .before .before .link-rules .ensures) ∙ start .enum-told .given .1) (
     simp (← c .before .before .word-at .ensures, ← c .before .bad-guard .ensures, c .if1 .left))
 
 pub guarded-link-rules-spec : {M : Type 1} → statement M

@@ -1,7 +1,6 @@
 -- `file_network::reader::element_at` reads an element record of either kind: each return by the test of the kind.
 -- Assumes nothing.
-use mathlib.Core.Path.{sym, ap, _∙_}
-use native.Mathlib.Omega.{arith}
+use mathlib.Core.Path.{sym, _∙_}
 use borrow.Author.Tests.{ne-eqb}
 use Rattle.file_network.specs.NetworkFiles.{elementOf}
 use Rattle.file_network.proofs.Elements.{element-wide}
