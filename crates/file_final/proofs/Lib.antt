@@ -1,2 +1,5 @@
 pub mod Within
 pub mod Answers
+pub mod Sizes
+pub mod Alike
+pub mod Known
