@@ -37,7 +37,7 @@ module _ (s : List ℕ) (links : ℕ) where
         arith,
         plan-looked s links at .from,
         look-grows (planLooks s links at) (λ middle stage p. planInputLooks s links middle) (planFile s links at)
-        (λ middle stage p e. second-from at middle (plan-looked s links at .ends middle stage p e)),
+            (λ middle stage p e. second-from at middle (plan-looked s links at .ends middle stage p e)),
       )
 
   plans-look-most : (at : ℕ) → plansLook s links at ≤ at + planLongest + planLongest + 1

@@ -3,3 +3,4 @@ pub mod Answers
 pub mod Sizes
 pub mod Alike
 pub mod Known
+pub mod Apart

@@ -101,7 +101,7 @@ pub record ApartFiles (network first second : List ℕ) (at : ℕ) (stage : Stag
   pub end-is : v .end ≡ length network + length first + length second
   pub at-is : at ≡ v .end
 
-counted-reached : {A : Type 0} (before : ℕ) (o : Reading A) (at : ℕ) (stage : Stage) (a : A) → countedOn before o ≡ reached at stage a
+pub counted-reached : {A : Type 0} (before : ℕ) (o : Reading A) (at : ℕ) (stage : Stage) (a : A) → countedOn before o ≡ reached at stage a
     → (own : ℕ) × (o ≡ reached own stage a) × (at ≡ before + own)
 counted-reached before (refused r) at stage a h = let z : _≡_ {A = ℕ} 0 1 = cc in absurd (omega arith)
 counted-reached before (reached own last b) at stage a h =
@@ -116,14 +116,14 @@ unfolding filesInputBy plansLentBy secondLentBy
 apart-files network first second at stage v h =
     let a = then-reached (λ at stage n. plansLent first second (length network) n) (networkInput network) at stage v h in
     let b = then-reached (λ at stage p. secondLent second (a .value) (length network) (length network + length first) p)
-        (countedOn (length network) (planInput first (a .value .links) 0)) at stage v (a .then) in
+    (countedOn (length network) (planInput first (a .value .links) 0)) at stage v (a .then) in
     let c = then-reached (twoPlans (a .value) (length network) (length network + length first) (b .value))
-        (countedOn (length network + length first) (planInput second (a .value .links) 0)) at stage v (b .then) in
+    (countedOn (length network + length first) (planInput second (a .value .links) 0)) at stage v (b .then) in
     let last = c .then in
     let at-is : c .at ≡ at = cc in
     let stage-is : c .stage ≡ stage = cc in
     let same : _≡_ {A = TwoPlans}
-        (record { net = a .value; first = b .value; second = c .value; start = length network; middle = length network + length first; end = c .at }) v = cc in
+    (record { net = a .value; first = b .value; second = c .value; start = length network; middle = length network + length first; end = c .at }) v = cc in
     let p = counted-reached (length network) (planInput first (a .value .links) 0) (b .at) (b .stage) (b .value) (b .first) in
     let q = counted-reached (length network + length first) (planInput second (a .value .links) 0) (c .at) (c .stage) (c .value) (c .first) in
     let net-long : a .at ≡ length network = sym (network-input-size network (a .at) (a .stage) (a .value) (a .first) .1) in
