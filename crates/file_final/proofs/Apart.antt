@@ -94,7 +94,8 @@ module _ (network : List ℕ) (at : ℕ) (stage : Stage) (n : Network) (read : n
 
 -- ---- one input that is read, cut into its files
 
-closed-at : {A : Type 0} (t : List ℕ) (at : ℕ) (stage : Stage) (a : A) → length t ≤ at → closed t at stage a ≡ reached at stage a
+-- rule 13 at the end
+pub closed-at : {A : Type 0} (t : List ℕ) (at : ℕ) (stage : Stage) (a : A) → length t ≤ at → closed t at stage a ≡ reached at stage a
 closed-at t at stage a h = rw (le-ltb at (length t) h)
 
 cut-same : (k : ℕ) (s : List ℕ) (at : ℕ) → k ≤ length s → SameFrom s (take k s) at at k

@@ -4,3 +4,5 @@ pub mod Sizes
 pub mod Alike
 pub mod Known
 pub mod Apart
+pub mod Refusals
+pub mod Stated
