@@ -20,7 +20,7 @@ use Rattle.file_plan.specs.PlanFiles.{emptyPlan}
 use Rattle.file_plan.specs.Inputs.{planInput, planRead}
 use Rattle.file_plan.proofs.Sizes.{planLongest, plan-size, plan-input-size}
 use Rattle.file_final.specs.declared.FinalRead.{FinalRead}
-use Rattle.file_final.specs.Inputs.{countedOn, twoPlans, finalRead}
+use Rattle.file_final.specs.Inputs.{countedOn, twoPlans, secondBehind, finalRead}
 
 -- it was read whole, to some offset
 pub record Whole {A : Type 0} (o : Reading A) (a : A) : Type 0 where
@@ -46,6 +46,12 @@ module _ (o : Reading Plan) (read : PlanRead) (is : read ≡ planRead o) where
   pub plan-none : {B : Type 0} (f : ℕ → Stage → Plan → Reading B) (r : Refusal) → read .answer ≡ Refused r → refused r ≡ readOn o f
   plan-none f r h = ap (λ (x : Reading Plan). readOn x f) (sym (plan-was-refused r h))
 
+  -- nor where its places count on
+  pub plan-none-on : {B : Type 0} (before on : ℕ) (f : ℕ → Stage → Plan → Reading B) (r : Refusal) → read .answer ≡ Refused r → before ≡ on
+      → countedOn before (refused r) ≡ readOn (countedOn on o) f
+  plan-none-on before on f r h e =
+      ap (λ (k : ℕ). countedOn k (refused r)) e ∙ ap (λ (x : Reading Plan). readOn (countedOn on x) f) (sym (plan-was-refused r h))
+
   pub plan-was-whole : read .answer ≡ Accepted → Whole o (read .plan)
   unfolding planRead
   plan-was-whole h = was-whole o emptyPlan (read .plan) (sym (ap (λ (x : PlanRead). x .answer) is) ∙ h) (ap (λ (x : PlanRead). x .plan) is)
@@ -58,6 +64,10 @@ module _ (o : Reading Network) (read : NetworkRead) (is : read ≡ networkRead o
   pub network-was-whole : read .answer ≡ Accepted → Whole o (read .net)
   unfolding networkRead
   network-was-whole h = was-whole o emptyNetwork (read .net) (sym (ap (λ (x : NetworkRead). x .answer) is) ∙ h) (ap (λ (x : NetworkRead). x .net) is)
+
+-- the second plan file where the first ends
+pub second-at : (s : List ℕ) (n : Network) (start middle at : ℕ) (p : Plan) → at ≡ middle → secondBehind s n start at p ≡ secondBehind s n start middle p
+second-at s n start middle at p e = ap (λ (k : ℕ). secondBehind s n start k p) e
 
 -- the struct that is handed back where the second plan was read whole
 pub both-plans :

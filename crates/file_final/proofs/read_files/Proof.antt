@@ -30,7 +30,10 @@ unfolding filesInputBy
 returns c =
     let args = c .before .before .before .before .before .before .before .before .args in
     let read-network = c .before .before .before .before .read-network in
-    c .refused-final .ensures ∙ ap finalRead (network-none (networkInput (args .network .now)) (read-network .result) (read-network .ensures) (λ at stage n. plansLent (args .first .now) (args .second .now) (length (args .network .now)) n) _ (c .before .before .answer .given .1))
+    c .refused-final .ensures
+    ∙ ap finalRead
+    (network-none (networkInput (args .network .now)) (read-network .result) (read-network .ensures)
+    (λ at stage n. plansLent (args .first .now) (args .second .now) (length (args .network .now)) n) _ (c .before .before .answer .given .1))
 
 enum-told : tie.Need-enum-told
 enum-told c =
@@ -48,7 +51,9 @@ unfolding filesInputBy
 returns-2 c =
     let args = c .before .before .before .before .before .before .before .args in
     let read-network = c .before .before .before .read-network in
-    c .plans-lent .ensures ∙ ap (λ (o : Reading Network). finalRead (readOn o (λ at stage n. plansLent (args .first .now) (args .second .now) (length (args .network .now)) n))) (sym (network-was-whole (networkInput (args .network .now)) (read-network .result) (read-network .ensures) (c .before .enum-told .given .1) .is))
+    let whole = network-was-whole (networkInput (args .network .now)) (read-network .result) (read-network .ensures) (c .before .enum-told .given .1) in
+    c .plans-lent .ensures
+    ∙ ap (λ (o : Reading Network). finalRead (readOn o (λ at stage n. plansLent (args .first .now) (args .second .now) (length (args .network .now)) n))) (sym (whole .is))
 
 pub read-files-spec : {M : Type 1} → statement M
 read-files-spec =

@@ -25,7 +25,10 @@ unfolding finalInputBy
 returns c =
     let args = c .before .before .before .before .before .before .args in
     let network-file = c .before .before .before .before .network-file in
-    c .refused-final .ensures ∙ ap finalRead (network-refused (networkFile (args .s .now)) (λ start stage n. plansBehind (args .s .now) start n) (network-file .result) _ (network-file .ensures) (c .before .before .reached .given .1) .1)
+    c .refused-final .ensures
+    ∙ ap finalRead
+    (network-refused (networkFile (args .s .now)) (λ start stage n. plansBehind (args .s .now) start n)
+    (network-file .result) _ (network-file .ensures) (c .before .before .reached .given .1) .1)
 
 enum-known-reached-2 : tie.Need-enum-known-reached-2
 enum-known-reached-2 c =
@@ -40,7 +43,10 @@ unfolding finalInputBy
 returns-2 c =
     let args = c .before .before .before .before .before .before .args in
     let network-file = c .before .before .before .before .network-file in
-    c .plans-behind .ensures ∙ ap finalRead (network-reached (networkFile (args .s .now)) (λ start stage n. plansBehind (args .s .now) start n) (network-file .result) _ _ (network-file .ensures) (c .before .before .reached2 .given .1) .1)
+    c .plans-behind .ensures
+    ∙ ap finalRead
+    (network-reached (networkFile (args .s .now)) (λ start stage n. plansBehind (args .s .now) start n)
+    (network-file .result) _ _ (network-file .ensures) (c .before .before .reached2 .given .1) .1)
 
 pub read-final-spec : {M : Type 1} → statement M
 read-final-spec =

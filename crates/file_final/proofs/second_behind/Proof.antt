@@ -26,7 +26,10 @@ unfolding secondBehindBy
 returns c =
     let args = c .before .before .before .before .before .before .args in
     let read-plan = c .before .before .before .before .read-plan in
-    c .refused-final .ensures ∙ ap finalRead (plan-none (planInput (args .s .now) (args .net .links) (args .middle)) (read-plan .result) (read-plan .ensures) (twoPlans (args .net) (args .start) (args .middle) (args .first)) _ (c .before .before .answer .given .1))
+    c .refused-final .ensures
+    ∙ ap finalRead
+    (plan-none (planInput (args .s .now) (args .net .links) (args .middle)) (read-plan .result) (read-plan .ensures)
+    (twoPlans (args .net) (args .start) (args .middle) (args .first)) _ (c .before .before .answer .given .1))
 
 enum-told : tie.Need-enum-told
 enum-told c =
@@ -39,7 +42,9 @@ returns-2 c =
     let read-plan = c .before .before .before .read-plan in
     let enum-told = c .before .enum-told in
     let whole = plan-was-whole (planInput (args .s .now) (args .net .links) (args .middle)) (read-plan .result) (read-plan .ensures) (enum-told .given .1) in
-    both-plans (planInput (args .s .now) (args .net .links) (args .middle)) _ (args .net) (args .first) (read-plan .result .plan) (args .start) (args .middle) _ whole (enum-told .given .1) (plan-input-size (args .s .now) (args .net .links) (args .middle) (whole .at) (whole .stage) (read-plan .result .plan) (whole .is) .1)
+    both-plans (planInput (args .s .now) (args .net .links) (args .middle)) _ (args .net) (args .first) (read-plan .result .plan) (args .start) (args .middle) _
+    whole (enum-told .given .1)
+    (plan-input-size (args .s .now) (args .net .links) (args .middle) (whole .at) (whole .stage) (read-plan .result .plan) (whole .is) .1)
 
 pub second-behind-spec : {M : Type 1} → statement M
 second-behind-spec =
