@@ -20,7 +20,7 @@ use Rattle.file_plan.specs.PlanFiles.{emptyPlan}
 use Rattle.file_plan.specs.Inputs.{planInput, planRead}
 use Rattle.file_plan.proofs.Sizes.{planLongest, plan-size, plan-input-size}
 use Rattle.file_final.specs.declared.FinalRead.{FinalRead}
-use Rattle.file_final.specs.Inputs.{countedOn, twoPlans, secondBehind, finalRead}
+use Rattle.file_final.specs.Inputs.{TwoPlans, noPlans, countedOn, twoPlans, secondBehind, finalRead}
 
 -- it was read whole, to some offset
 pub record Whole {A : Type 0} (o : Reading A) (a : A) : Type 0 where
@@ -64,6 +64,19 @@ module _ (o : Reading Network) (read : NetworkRead) (is : read ≡ networkRead o
   pub network-was-whole : read .answer ≡ Accepted → Whole o (read .net)
   unfolding networkRead
   network-was-whole h = was-whole o emptyNetwork (read .net) (sym (ap (λ (x : NetworkRead). x .answer) is) ∙ h) (ap (λ (x : NetworkRead). x .net) is)
+
+-- what a final's reader hands out, as what was read
+abbrev pub plansOf : FinalRead → TwoPlans
+plansOf r = record { net = r .net; first = r .first; second = r .second; start = r .start; middle = r .middle; end = r .end }
+
+module _ (o : Reading TwoPlans) (read : FinalRead) (is : read ≡ finalRead o) where
+  pub final-was-refused : (r : Refusal) → read .answer ≡ Refused r → o ≡ refused r
+  unfolding finalRead
+  final-was-refused r h = was-refused o r (sym (ap (λ (x : FinalRead). x .answer) is) ∙ h)
+
+  pub final-was-whole : read .answer ≡ Accepted → Whole o (plansOf read)
+  unfolding finalRead
+  final-was-whole h = was-whole o noPlans (plansOf read) (sym (ap (λ (x : FinalRead). x .answer) is) ∙ h) (ap plansOf is)
 
 -- the second plan file where the first ends
 pub second-at : (s : List ℕ) (n : Network) (start middle at : ℕ) (p : Plan) → at ≡ middle → secondBehind s n start at p ≡ secondBehind s n start middle p

@@ -12,7 +12,7 @@ use Rattle.network.specs.declared.refusal.Refusal.{Refusal}
 use Rattle.network.specs.declared.refusal.Answer.the-variants.{Accepted, Refused}
 use Rattle.file_stages.specs.declared.Stage.{Stage}
 use Rattle.file_fields.specs.Fields.{word}
-use Rattle.file_network.specs.Runs.{Reading, refused, reached, readOn}
+use Rattle.file_network.specs.Runs.{Reading, reached, readOn}
 use Rattle.file_network.specs.NetworkFiles.{networkFile}
 use Rattle.file_network.specs.Inputs.{closed}
 use Rattle.file_network.proofs.Sizes.{network-size, network-input-size}
@@ -30,24 +30,9 @@ use Rattle.file_final.specs.declared.FinalRead.{FinalRead}
 use Rattle.file_final.specs.Inputs.{TwoPlans, noPlans, twoPlans, countedOn, finalInput, filesInput, finalRead}
 use Rattle.file_final.specs.Finals.{FirstBrokenFinal, FinalOf, PlanOf, FirstBrokenFiles, FilesOf}
 use Rattle.file_final.proofs.Sizes.{FinalFiles, final-files, ApartFiles, apart-files}
+use Rattle.file_final.proofs.Answers.{final-was-refused, final-was-whole}
 use Rattle.file_final.proofs.Apart.{closed-at}
 use Rattle.file_final.proofs.Refusals.{ReadTo, network-stood, plan-stood, second-in, final-refused, keeps-read, plan-alone-keeps, links-stated, second-apart, files-refused}
-
--- ---- the answer, and what is handed out with it
-
-was-refused : (o : Reading TwoPlans) (f : Refusal) → finalRead o .answer ≡ Refused f → o ≡ refused f
-unfolding finalRead
-was-refused (refused g) f h = let same : g ≡ f = cc in ap refused same
-was-refused (reached at stage v) f h = let z : _≡_ {A = ℕ} 0 1 = cc in absurd (omega arith)
-
-was-read : (P : FinalRead → Type 0) (o : Reading TwoPlans) (r : FinalRead) → finalRead o ≡ r → r .answer ≡ Accepted
-    → ((at : ℕ) (stage : Stage) (v : TwoPlans) → o ≡ reached at stage v → P (finalRead (reached at stage v))) → P r
-unfolding finalRead
-was-read P (refused g) r h a read =
-    let same : Refused g ≡ Accepted = ap (λ (x : FinalRead). x .answer) h ∙ a in
-    let z : _≡_ {A = ℕ} 0 1 = cc in
-    absurd (omega arith)
-was-read P (reached at stage v) r h a read = subst P h (read at stage v refl)
 
 -- ---- one input
 
@@ -97,7 +82,7 @@ module _ (s : List ℕ) where
   -- refused with this rule and place exactly where it is the first that s breaks
   pub final-unread : (f : Refusal) → (finalRead (finalInput s) .answer ≡ Refused f) ↔ FirstBrokenFinal s f
   unfolding finalRead
-  final-unread f = (λ e. final-refused s f .0 (was-refused (finalInput s) f e), λ b. ap (λ (o : Reading TwoPlans). finalRead o .answer) (final-refused s f .1 b))
+  final-unread f = (λ e. final-refused s f .0 (final-was-refused (finalInput s) (finalRead (finalInput s)) refl f e), λ b. ap (λ (o : Reading TwoPlans). finalRead o .answer) (final-refused s f .1 b))
 
   -- "A refusal hands out no plan, mark or partial network."
   pub final-handed-out : (f : Refusal) → (finalRead (finalInput s) ≡
@@ -110,8 +95,9 @@ module _ (s : List ℕ) where
       record { answer = Accepted; net = n; first = p; second = q; start = start; middle = middle; end = length s }) ↔ FinalOf s n p q start middle
   unfolding finalRead
   final-read n p q start middle = (
-    λ e. was-read (λ r. FinalOf s (r .net) (r .first) (r .second) (r .start) (r .middle)) (finalInput s) _ e refl
-        (λ at stage v h. final-of at stage v (final-files s at stage v h)),
+    λ e.
+        let w = final-was-whole (finalInput s) _ (sym e) refl in
+        final-of (w .at) (w .stage) _ (final-files s (w .at) (w .stage) _ (w .is)),
     λ x. ap finalRead (final-stated n p q start middle x .1),
   )
 
@@ -167,7 +153,7 @@ module _ (network first second : List ℕ) where
   pub files-unread : (f : Refusal) → (finalRead (filesInput network first second) .answer ≡ Refused f) ↔ FirstBrokenFiles network first second f
   unfolding finalRead
   files-unread f = (
-    λ e. files-refused network first second f .0 (was-refused (filesInput network first second) f e),
+    λ e. files-refused network first second f .0 (final-was-refused (filesInput network first second) (finalRead (filesInput network first second)) refl f e),
     λ b. ap (λ (o : Reading TwoPlans). finalRead o .answer) (files-refused network first second f .1 b),
   )
 
@@ -188,7 +174,8 @@ module _ (network first second : List ℕ) where
       }) ↔ FilesOf network first second n p q
   unfolding finalRead
   files-read n p q = (
-    λ e. was-read (λ r. FilesOf network first second (r .net) (r .first) (r .second)) (filesInput network first second) _ e refl
-        (λ at stage v h. files-of at stage v (apart-files network first second at stage v h)),
+    λ e.
+        let w = final-was-whole (filesInput network first second) _ (sym e) refl in
+        files-of (w .at) (w .stage) _ (apart-files network first second (w .at) (w .stage) _ (w .is)),
     λ x. ap finalRead (files-stated n p q x .1),
   )
