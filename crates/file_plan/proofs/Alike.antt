@@ -67,7 +67,7 @@ module _ (s : List ℕ) (links : ℕ) where
       let ends = run-ends s (always (linksSeen links)) (withStep s) (word s (head + 4)) at Steps p q st m e refl in
       rw (ends .1) (omega (arith, ends .0, looks-one s (always (linksSeen links)) asIs q PlanEnd m (omega arith))))
 
-  plan-look-most : (head : ℕ) → planLooks s links head ≤ head + planLongest
+  pub plan-look-most : (head : ℕ) → planLooks s links head ≤ head + planLongest
   unfolding planLooks
   plan-look-most head =
       look-most (looks s (always (linksSeen links)) asIs 1 head PlanHead emptyPlan) (head + planLongest) (stepsLook s links head) (planHeadRun s links head)

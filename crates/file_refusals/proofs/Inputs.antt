@@ -106,39 +106,40 @@ module _ (s : List ℕ) where
           subst (λ (st : Stage). Ran s (word s 4) (word s 6) (End ∷ []) at (endRun s at st n)) (sym (links-read s at stage n e .stage-is))
           (one-ran s (word s 4) (word s 6) (always nothingSeen) asIs at End n tt)
 
-  -- the plan file behind a network of these counts
-  pub plan-head-ran : (head : ℕ) → Ran s (word s 4) (word s 6) (PlanHead ∷ []) head (planHeadRun s (word s 6) head)
-  plan-head-ran head = one-ran s (word s 4) (word s 6) (always (linksSeen (word s 6))) asIs head PlanHead emptyPlan tt
+-- a plan file, in a network of so many elements and links
+module _ (s : List ℕ) (E K : ℕ) where
+  pub plan-head-ran : (head : ℕ) → Ran s E K (PlanHead ∷ []) head (planHeadRun s K head)
+  plan-head-ran head = one-ran s E K (always (linksSeen K)) asIs head PlanHead emptyPlan tt
 
   pub steps-run-ran : (i at : ℕ) (p : Plan)
-      → Ran s (word s 4) (word s 6) (replicate i Steps) at (records s (always (linksSeen (word s 6))) (withStep s) i at Steps p)
+      → Ran s E K (replicate i Steps) at (records s (always (linksSeen K)) (withStep s) i at Steps p)
   unfolding linksSeen
   steps-run-ran i at p =
-      many-ran s (word s 4) (word s 6) (always (linksSeen (word s 6))) (withStep s) Steps (λ left at p. Unit) refl (λ left at p q. refl)
+      many-ran s E K (always (linksSeen K)) (withStep s) Steps (λ left at p. Unit) refl (λ left at p q. refl)
       (λ left at p kind long after d q. tt) i at p tt
 
-  pub plan-ran : (at : ℕ) → Ran s (word s 4) (word s 6) (planStages (word s (at + 4))) at (planFile s (word s 6) at)
+  pub plan-ran : (at : ℕ) → Ran s E K (planStages (word s (at + 4))) at (planFile s K at)
   plan-ran head =
-      subst (Ran s (word s 4) (word s 6) (planStages (word s (head + 4))) head) (sym (plan-chain s (word s 6) head))
-      (ran-then s (word s 4) (word s 6) (PlanHead ∷ replicate (word s (head + 4)) Steps) (PlanEnd ∷ []) head (withSteps s (word s 6) head) (planEndRun s (word s 6) head)
-      (ran-then s (word s 4) (word s 6) (PlanHead ∷ []) (replicate (word s (head + 4)) Steps) head (planHeadRun s (word s 6) head) (stepsRun s (word s 6) head)
+      subst (Ran s E K (planStages (word s (head + 4))) head) (sym (plan-chain s K head))
+      (ran-then s E K (PlanHead ∷ replicate (word s (head + 4)) Steps) (PlanEnd ∷ []) head (withSteps s K head) (planEndRun s K head)
+      (ran-then s E K (PlanHead ∷ []) (replicate (word s (head + 4)) Steps) head (planHeadRun s K head) (stepsRun s K head)
       (plan-head-ran head)
       more)
       last)
     where
-      more : (at : ℕ) (stage : Stage) (p : Plan) → planHeadRun s (word s 6) head ≡ reached at stage p
-          → Ran s (word s 4) (word s 6) (replicate (word s (head + 4)) Steps) at (stepsRun s (word s 6) head at stage p)
+      more : (at : ℕ) (stage : Stage) (p : Plan) → planHeadRun s K head ≡ reached at stage p
+          → Ran s E K (replicate (word s (head + 4)) Steps) at (stepsRun s K head at stage p)
       more at stage p e =
-          subst (λ (st : Stage). Ran s (word s 4) (word s 6) (replicate (word s (head + 4)) Steps) at (stepsRun s (word s 6) head at st p))
-          (sym (plan-head-read s (word s 6) head at stage p e .stage-is))
+          subst (λ (st : Stage). Ran s E K (replicate (word s (head + 4)) Steps) at (stepsRun s K head at st p))
+          (sym (plan-head-read s K head at stage p e .stage-is))
           (steps-run-ran (word s (head + 4)) at p)
 
-      last : (at : ℕ) (stage : Stage) (p : Plan) → withSteps s (word s 6) head ≡ reached at stage p
-          → Ran s (word s 4) (word s 6) (PlanEnd ∷ []) at (planEndRun s (word s 6) head at stage p)
+      last : (at : ℕ) (stage : Stage) (p : Plan) → withSteps s K head ≡ reached at stage p
+          → Ran s E K (PlanEnd ∷ []) at (planEndRun s K head at stage p)
       last at stage p e =
-          subst (λ (st : Stage). Ran s (word s 4) (word s 6) (PlanEnd ∷ []) at (planEndRun s (word s 6) head at st p))
-          (sym (steps-read s (word s 6) head at stage p e .stage-is))
-          (one-ran s (word s 4) (word s 6) (always (linksSeen (word s 6))) asIs at PlanEnd p tt)
+          subst (λ (st : Stage). Ran s E K (PlanEnd ∷ []) at (planEndRun s K head at st p))
+          (sym (steps-read s K head at stage p e .stage-is))
+          (one-ran s E K (always (linksSeen K)) asIs at PlanEnd p tt)
 
 -- ---- one case, and no other
 
@@ -241,7 +242,7 @@ both-read-as s = go (networkFile s) refl (network-ran s)
     go (refused f) e x = in-network x
     go (reached mid stage n) e x =
         subst (λ (k : ℕ). BothAs s (readOn (readOn (planFile s k mid) (closed s)) (paired n))) (sym (network-size s mid stage n e .links .links-are))
-        (plan mid n x (planFile s (word s 6) mid) refl (plan-ran s mid))
+        (plan mid n x (planFile s (word s 6) mid) refl (plan-ran s (word s 4) (word s 6) mid))
 
 pub both-refused : (s : List ℕ) (f : Refusal) → (bothInput s ≡ refused f → FirstBrokenBoth s f) × (FirstBrokenBoth s f → bothInput s ≡ refused f)
 both-refused s f = (λ e. subst (BothAs s) e (both-read-as s), λ b. go (bothInput s) refl (both-read-as s) b)

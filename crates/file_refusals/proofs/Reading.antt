@@ -110,16 +110,16 @@ module _ (s : List ℕ) where
         middle = size .middle;
         network = size-network size;
         plan = subst (PlanStands s (size .middle)) (sym (size .ends))
-            (subst (Ran s (word s 4) (word s 6) (planStages (word s (size .middle + 4))) (size .middle)) (plan-is size) (plan-ran s (size .middle)));
+            (subst (Ran s (word s 4) (word s 6) (planStages (word s (size .middle + 4))) (size .middle)) (plan-is size) (plan-ran s (word s 4) (word s 6) (size .middle)));
         states = file-states s (size .middle) (size .due) n (size .network);
-        states-plan = plan-states s (size .middle) at stage p (plan-is size);
+        states-plan = plan-states s (word s 4) (word s 6) (size .middle) at stage p (plan-is size);
       }
 
   -- what is read is what they state
   both-same : {at : ℕ} {stage : Stage} {m n : Network} {q p : Plan} → BothSize s at stage m q → BothOf s n p → (m ≡ n) × (q ≡ p)
   both-same {at} {stage} {m} {n} {q} {p} size x = (
     states-once s (size .middle) (size .due) m (size .network) n (x .states),
-    plan-states-once s (size .middle) at stage q (plan-is size) p
+    plan-states-once s (word s 4) (word s 6) (size .middle) at stage q (plan-is size) p
         (subst (λ (h : ℕ). StatesPlan s h p) (stand-once s (word s 4) (word s 6) (x .network) (size-network size)) (x .states-plan)),
   )
 

@@ -1,4 +1,4 @@
--- What a plan file states is what the reader keeps, and nothing else.
+-- What a plan file states, in a network of so many elements and links, is what the reader keeps, and nothing else.
 -- Assumes nothing.
 use mathlib.Core.Path.{_≡_, refl, sym, ap, subst, _∙_}
 use mathlib.Core.Bool.{Bool, true, false}
@@ -23,7 +23,7 @@ use Rattle.file_plan.proofs.Parts.{planHeadRun, stepsRun, planEndRun, withSteps
 use Rattle.file_plan.proofs.Sizes.{plan-head-read, StepsRead, PlanSize, plan-size}
 use Rattle.file_plan.proofs.Contents.{PlanHolds, StepAt, plan-holds}
 use Rattle.file_refusals.specs.Files.{Stand}
-use Rattle.file_refusals.specs.Stated.{StepIs, StatesPlan}
+use Rattle.file_refusals.specs.Stated.{StepIs, StatesPlanIn}
 use Rattle.file_refusals.proofs.Files.{stand-append, stand-once, Ran}
 use Rattle.file_refusals.proofs.Inputs.{plan-head-ran, steps-run-ran}
 use Rattle.file_refusals.proofs.Stated.{filled, run-beyond}
@@ -33,40 +33,40 @@ two-states : (x : ℕ) → x ≤ 1 → (x ≡ 0) ⊎ (x ≡ 1)
 two-states zero h = inl refl
 two-states (suc x) h = inr (omega arith)
 
-module _ (s : List ℕ) (head : ℕ) where
+module _ (s : List ℕ) (E K head : ℕ) where
   clash : {A : Type 0} {f : Refusal} {at : ℕ} {stage : Stage} {p : Plan} → refused f ≡ reached at stage p → A
   clash e = let z : _≡_ {A = ℕ} 0 1 = cc in absurd (omega arith)
 
-  head-of-steps : {at : ℕ} {stage : Stage} {p : Plan} → withSteps s (word s 6) head ≡ reached at stage p → Stand s (word s 4) (word s 6) (PlanHead ∷ []) head (head + 6)
-  head-of-steps {at} {stage} {p} e = go (planHeadRun s (word s 6) head) refl e
+  head-of-steps : {at : ℕ} {stage : Stage} {p : Plan} → withSteps s K head ≡ reached at stage p → Stand s E K (PlanHead ∷ []) head (head + 6)
+  head-of-steps {at} {stage} {p} e = go (planHeadRun s K head) refl e
     where
-      go : (o : Reading Plan) → planHeadRun s (word s 6) head ≡ o → readOn o (stepsRun s (word s 6) head) ≡ reached at stage p
-          → Stand s (word s 4) (word s 6) (PlanHead ∷ []) head (head + 6)
+      go : (o : Reading Plan) → planHeadRun s K head ≡ o → readOn o (stepsRun s K head) ≡ reached at stage p
+          → Stand s E K (PlanHead ∷ []) head (head + 6)
       go (refused f) h k = clash k
       go (reached a st q) h k =
-          subst (Stand s (word s 4) (word s 6) (PlanHead ∷ []) head) (plan-head-read s (word s 6) head a st q h .ends)
-          (subst (Ran s (word s 4) (word s 6) (PlanHead ∷ []) head) h (plan-head-ran s head))
+          subst (Stand s E K (PlanHead ∷ []) head) (plan-head-read s K head a st q h .ends)
+          (subst (Ran s E K (PlanHead ∷ []) head) h (plan-head-ran s E K head))
 
-  head-of-plan : {at : ℕ} {stage : Stage} {p : Plan} → planFile s (word s 6) head ≡ reached at stage p → Stand s (word s 4) (word s 6) (PlanHead ∷ []) head (head + 6)
-  head-of-plan {at} {stage} {p} e = go (withSteps s (word s 6) head) refl (sym (plan-chain s (word s 6) head) ∙ e)
+  head-of-plan : {at : ℕ} {stage : Stage} {p : Plan} → planFile s K head ≡ reached at stage p → Stand s E K (PlanHead ∷ []) head (head + 6)
+  head-of-plan {at} {stage} {p} e = go (withSteps s K head) refl (sym (plan-chain s K head) ∙ e)
     where
-      go : (o : Reading Plan) → withSteps s (word s 6) head ≡ o → readOn o (planEndRun s (word s 6) head) ≡ reached at stage p
-          → Stand s (word s 4) (word s 6) (PlanHead ∷ []) head (head + 6)
+      go : (o : Reading Plan) → withSteps s K head ≡ o → readOn o (planEndRun s K head) ≡ reached at stage p
+          → Stand s E K (PlanHead ∷ []) head (head + 6)
       go (refused f) h k = clash k
       go (reached a st q) h k = head-of-steps h
 
-module _ (s : List ℕ) (head at : ℕ) (stage : Stage) (p : Plan) (file : planFile s (word s 6) head ≡ reached at stage p) where
-  steps-stand : (i place : ℕ) (value : Plan) → records s (always (linksSeen (word s 6))) (withStep s) i (head + 6) Steps emptyPlan ≡ reached place Steps value
-      → Stand s (word s 4) (word s 6) (PlanHead ∷ replicate i Steps) head place
+module _ (s : List ℕ) (E K head at : ℕ) (stage : Stage) (p : Plan) (file : planFile s K head ≡ reached at stage p) where
+  steps-stand : (i place : ℕ) (value : Plan) → records s (always (linksSeen K)) (withStep s) i (head + 6) Steps emptyPlan ≡ reached place Steps value
+      → Stand s E K (PlanHead ∷ replicate i Steps) head place
   steps-stand i place value e =
-      stand-append s (word s 4) (word s 6) (head-of-plan s head file)
-      (subst (Ran s (word s 4) (word s 6) (replicate i Steps) (head + 6)) e
-      (steps-run-ran s i (head + 6) emptyPlan))
+      stand-append s E K (head-of-plan s E K head file)
+      (subst (Ran s E K (replicate i Steps) (head + 6)) e
+      (steps-run-ran s E K i (head + 6) emptyPlan))
 
-  holds : PlanHolds s (word s 6) head p
-  holds = plan-holds s (word s 6) head at stage p file
+  holds : PlanHolds s K head p
+  holds = plan-holds s K head at stage p file
 
-  pub plan-states : StatesPlan s head p
+  pub plan-states : StatesPlanIn s E K head p
   unfolding withStep emptyPlan
   plan-states =
       record {
@@ -75,23 +75,23 @@ module _ (s : List ℕ) (head at : ℕ) (stage : Stage) (p : Plan) (file : planF
         close-long = holds .close-long;
         step = λ i place lt stand.
             let e = holds .step i (omega (arith, read .steps-are)) in
-            let is : e .found .place ≡ place = stand-once s (word s 4) (word s 6) (steps-stand i (e .found .place) (e .found .value) (e .found .before)) stand in
+            let is : e .found .place ≡ place = stand-once s E K (steps-stand i (e .found .place) (e .found .value) (e .found .before)) stand in
             subst (λ (a : ℕ). StepIs p i (word s (a + 4)) (word s (a + 6))) is (step-is i e);
         no-step = λ i h. record {
-          link-is = run-beyond s (always (linksSeen (word s 6))) (withStep s) (λ q. q .link) (λ q. q .steps) (λ a. word s (a + 4)) 0 (λ a q. refl) (λ a q. refl)
+          link-is = run-beyond s (always (linksSeen K)) (withStep s) (λ q. q .link) (λ q. q .steps) (λ a. word s (a + 4)) 0 (λ a q. refl) (λ a q. refl)
               (word s (head + 4)) (head + 6) Steps emptyPlan (size .steps-end) Steps p (read .run) i (omega arith) ∙ filled 0 255 i;
           opens = λ _. closes-none i h;
           closes = λ e. absurd (omega (arith, e));
         };
       }
     where
-      size : PlanSize s (word s 6) head at stage p
-      size = plan-size s (word s 6) head at stage p file
+      size : PlanSize s K head at stage p
+      size = plan-size s K head at stage p file
 
-      read : StepsRead s (word s 6) head (size .steps-end) Steps p
+      read : StepsRead s K head (size .steps-end) Steps p
       read = size .steps
 
-      step-is : (i : ℕ) (e : StepAt s (word s 6) head p i) → StepIs p i (word s (e .found .place + 4)) (word s (e .found .place + 6))
+      step-is : (i : ℕ) (e : StepAt s K head p i) → StepIs p i (word s (e .found .place + 4)) (word s (e .found .place + 6))
       step-is i e = record {
         link-is = e .link-is;
         opens = λ x. e .close-is ∙ ap (λ (y : ℕ). eqb y 1) x;
@@ -100,7 +100,7 @@ module _ (s : List ℕ) (head at : ℕ) (stage : Stage) (p : Plan) (file : planF
 
       closes-none : (i : ℕ) → word s (head + 4) ≤ i → getD (p .close) i false ≡ false
       closes-none i h =
-          run-beyond s (always (linksSeen (word s 6))) (withStep s) (λ q. q .close) (λ q. q .steps) (λ a. eqb (word s (a + 6)) 1) false (λ a q. refl) (λ a q. refl)
+          run-beyond s (always (linksSeen K)) (withStep s) (λ q. q .close) (λ q. q .steps) (λ a. eqb (word s (a + 6)) 1) false (λ a q. refl) (λ a q. refl)
           (word s (head + 4)) (head + 6) Steps emptyPlan (size .steps-end) Steps p (read .run) i (omega arith) ∙ filled false 255 i
 
   -- ---- and nothing else
@@ -109,7 +109,7 @@ module _ (s : List ℕ) (head at : ℕ) (stage : Stage) (p : Plan) (file : planF
     pub link : getD (p .link) i 0 ≡ getD (q .link) i 0
     pub close : getD (p .close) i false ≡ getD (q .close) i false
 
-  module _ (q : Plan) (states : StatesPlan s head q) where
+  module _ (q : Plan) (states : StatesPlanIn s E K head q) where
     same-step : (i : ℕ) → SameStep q i
     same-step i = go (ltb i (word s (head + 4))) refl
       where

@@ -63,14 +63,18 @@ pub record StepIs (p : Plan) (i link state : ℕ) : Type 0 where
   pub opens : state ≡ 0 → getD (p .close) i false ≡ false
   pub closes : state ≡ 1 → getD (p .close) i false ≡ true
 
--- the plan file at an offset states the plan p, whose lists are 255 steps wide
-pub record StatesPlan (s : List ℕ) (head : ℕ) (p : Plan) : Type 0 where
+-- the plan file at an offset of s, for a network of E elements and K links, states the plan p, whose lists are 255 steps wide
+pub record StatesPlanIn (s : List ℕ) (E K head : ℕ) (p : Plan) : Type 0 where
   pub steps : p .steps ≡ word s (head + 4)
   pub link-long : length (p .link) ≡ 255
   pub close-long : length (p .close) ≡ 255
-  pub step : (i at : ℕ) → i < word s (head + 4) → Stand s (word s 4) (word s 6) (PlanHead ∷ replicate i Steps) head at
+  pub step : (i at : ℕ) → i < word s (head + 4) → Stand s E K (PlanHead ∷ replicate i Steps) head at
       → StepIs p i (word s (at + 4)) (word s (at + 6))
   pub no-step : (i : ℕ) → word s (head + 4) ≤ i → StepIs p i 0 0
+
+-- it stands behind its network file, which is at the front of s
+abbrev pub StatesPlan : List ℕ → ℕ → Plan → Type 0
+StatesPlan s head p = StatesPlanIn s (word s 4) (word s 6) head p
 
 -- "The planning program reads one network file": s is one that keeps rules 1 to 13 and 20, and n is what it states
 pub record NetworkOf (s : List ℕ) (n : Network) : Type 0 where
