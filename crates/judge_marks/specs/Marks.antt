@@ -138,6 +138,10 @@ markWith cheapest (Standing·.Broken b) = Mark·.Broken b
 markWith cheapest (Standing·.Short e) = Mark·.Short e
 markWith cheapest (Standing·.Complete cost) = scoredAt cheapest cost
 
+-- where a plan stands complete, no less than a least cost
+abbrev pub AtMost : ℕ → Standing → Type 0
+AtMost least found = (cost : ℕ) → found ≡ Standing·.Complete cost → least ≤ cost
+
 unfoldable pub markBy : Net → (ℕ → Bool) → (List Step → ℕ) → ℕ → List Step → Mark
 markBy net op price cheapest q = markWith cheapest (standingBy net op price q)
 
