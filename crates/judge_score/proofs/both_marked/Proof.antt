@@ -49,9 +49,10 @@ returns c =
     let standing-of· = c .before .before .before .before .before .standing-of in
     let either-complete· = c .before .before .before .either-complete in
     let least-asked· = c .before .before .least-asked in
-    let standing-of2· = c .before .before .before .before .standing-of2 in
-    (asked-mark (args· .start .net) (pre· .0 .formed) (pre· .0 .starts) (stepsOf (args· .first)) (standing-of· .result) (standing-of· .ensures) (either-complete· .result) (first-asks (standing-of· .result) (standing-of2· .result) _ (either-complete· .ensures)) (least-asked· .result) (least-asked· .ensures) _ (c .before .mark-with .ensures),
-    asked-mark (args· .start .net) (pre· .0 .formed) (pre· .0 .starts) (stepsOf (args· .second)) (standing-of2· .result) (standing-of2· .ensures) (either-complete· .result) (second-asks (standing-of· .result) (standing-of2· .result) _ (either-complete· .ensures)) (least-asked· .result) (least-asked· .ensures) _ (c .mark-with2 .ensures))
+    let standing-of2· = c .before .before .before .before .standing-of2 in (
+      asked-mark (args· .start .net) (pre· .0 .formed) (pre· .0 .starts) (stepsOf (args· .first)) (standing-of· .result) (standing-of· .ensures) (either-complete· .result) (first-asks (standing-of· .result) (standing-of2· .result) _ (either-complete· .ensures)) (least-asked· .result) (least-asked· .ensures) _ (c .before .mark-with .ensures),
+      asked-mark (args· .start .net) (pre· .0 .formed) (pre· .0 .starts) (stepsOf (args· .second)) (standing-of2· .result) (standing-of2· .ensures) (either-complete· .result) (second-asks (standing-of· .result) (standing-of2· .result) _ (either-complete· .ensures)) (least-asked· .result) (least-asked· .ensures) _ (c .mark-with2 .ensures),
+    )
 
 pub both-marked-spec : {M : Type 1} → statement M
 both-marked-spec =
