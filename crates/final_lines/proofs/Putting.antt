@@ -14,10 +14,11 @@ use Rattle.judge_marks.specs.declared.BothMarks.{BothMarks}
 use Rattle.judge_line.specs.MarkLines.{markLine}
 use Rattle.final_lines.specs.FinalLines.{markLines, finalLines}
 
-pub marks-put : (l l₁ l₂ : List ℕ) (at i k : ℕ) (m : BothMarks) (x y : Mark) → Put l at l₁ i (markLine x) → Put l₁ i l₂ k (markLine y) → x ≡ m .first
-    → y ≡ m .second → Put l at l₂ k (markLines m)
+pub marks-put : (l l₁ l₂ : List ℕ) (at i j k : ℕ) (m : BothMarks) (x y : Mark) → Put l at l₁ i (markLine x) → Put l₁ j l₂ k (markLine y) → j ≡ i
+    → x ≡ m .first → y ≡ m .second → Put l at l₂ k (markLines m)
 unfolding markLines
-marks-put l l₁ l₂ at i k m x y p q e h = put-behind l l₁ l₂ at i k (markLine (m .first)) (markLine (m .second)) (rw e at p) (rw h at q)
+marks-put l l₁ l₂ at i j k m x y p q same e h =
+    put-behind l l₁ l₂ at i k (markLine (m .first)) (markLine (m .second)) (rw e at p) (rw (same, h) at q)
 
 module _ (a : Answer) (m : BothMarks) (l l′ : List ℕ) (k : ℕ) where
   -- the lines in front of a buffer, counted

@@ -23,7 +23,7 @@ returns : tie.Need-returns
 returns c =
     let args· = c .before .before .before .before .before .before .before .before .before .args in
     let put-mark· = c .before .before .before .before .before .before .put-mark in
-    (omega arith, marks-put (args· .out .now) _ _ (args· .at) _ _ (args· .marks) _ _ (put-mark· .ensures .1) (c .before .before .put-mark2 .ensures .1) refl refl)
+    (omega arith, marks-put (args· .out .now) _ _ (args· .at) _ _ _ (args· .marks) _ _ (put-mark· .ensures .1) (c .before .before .put-mark2 .ensures .1) (omega arith) refl refl)
 
 pub put-marks-spec : {M : Type 1} → statement M
 put-marks-spec = tie.close (tie.spec put-mark-requires put-mark-requires-2 same-length returns)
