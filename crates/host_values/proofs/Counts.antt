@@ -34,11 +34,11 @@ mark-two (Short e) = refl
 mark-two (Valid v) = refl
 
 -- those of a final, one by one
-pub final-nine : (m : BothMarks) (p : Part) (a b : List ℕ) (k j n : ℕ) → k ≡ markKind (m .first) → a ≡ markValues (m .first) → j ≡ markKind (m .second)
-    → b ≡ markValues (m .second) → n ≡ betterNumber (p .better)
-    → k ∷ getD a 0 0 ∷ getD a 1 0 ∷ j ∷ getD b 0 0 ∷ getD b 1 0 ∷ n ∷ p .offset ∷ p .length ∷ [] ≡ finalValues m p
+pub final-nine : (m : BothMarks) (p : Part) (a b : List ℕ) (k j n x y : ℕ) → k ≡ markKind (m .first) → a ≡ markValues (m .first) → j ≡ markKind (m .second)
+    → b ≡ markValues (m .second) → n ≡ betterNumber (p .better) → x ≡ p .offset → y ≡ p .length
+    → k ∷ getD a 0 0 ∷ getD a 1 0 ∷ j ∷ getD b 0 0 ∷ getD b 1 0 ∷ n ∷ x ∷ y ∷ [] ≡ finalValues m p
 unfolding finalValues
-final-nine m p a b k j n e h e′ h′ better = rw (e, h, e′, h′, better, mark-two (m .first), mark-two (m .second)) refl
+final-nine m p a b k j n x y e h e′ h′ better f g = rw (e, h, e′, h′, better, f, g, mark-two (m .first), mark-two (m .second)) refl
 
 pub final-count : (m : BothMarks) (p : Part) → length (finalValues m p) ≡ 9
 unfolding finalValues

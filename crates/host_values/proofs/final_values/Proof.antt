@@ -1,5 +1,6 @@
 -- `final_values` gives the numbers of both marks and of the part: one by one.
 -- Assumes nothing.
+use native.Mathlib.Omega.{arith}
 use Rattle.host_values.proofs.Counts.{final-nine}
 use borrow.Author.Needs.{needs}
 use Rattle.host_values.proofs.final_values.Statement.{statement}
@@ -46,7 +47,7 @@ returns c =
     let args· = c .before .before .before .before .before .args in
     let mark-values· = c .before .before .before .before .mark-values in
     let mark-values2· = c .before .before .before .mark-values2 in
-    final-nine (args· .marks) (args· .part) (mark-values· .result) (mark-values2· .result) _ _ _ (c .before .before .mark-kind .ensures) (mark-values· .ensures) (c .before .mark-kind2 .ensures) (mark-values2· .ensures) (c .better-number .ensures)
+    final-nine (args· .marks) (args· .part) (mark-values· .result) (mark-values2· .result) _ _ _ _ _ (c .before .before .mark-kind .ensures) (mark-values· .ensures) (c .before .mark-kind2 .ensures) (mark-values2· .ensures) (c .better-number .ensures) (omega arith) (omega arith)
 
 pub final-values-spec : {M : Type 1} → statement M
 final-values-spec =
