@@ -138,7 +138,7 @@ markWith cheapest (Standing·.Broken b) = Mark·.Broken b
 markWith cheapest (Standing·.Short e) = Mark·.Short e
 markWith cheapest (Standing·.Complete cost) = scoredAt cheapest cost
 
--- where a plan stands complete, no less than a least cost
+-- where a plan stands complete, it costs at least this
 abbrev pub AtMost : ℕ → Standing → Type 0
 AtMost least found = (cost : ℕ) → found ≡ Standing·.Complete cost → least ≤ cost
 
