@@ -1,12 +1,16 @@
--- A reply has five values and a mark has two, whatever they are: `TAMCHUWE_PLAN_VALUES` and `TAMCHUWE_MARK_VALUES` of the C header. Case by case.
+-- A reply has five values, a mark has two and a final has nine, whatever they are: `TAMCHUWE_PLAN_VALUES` and `TAMCHUWE_MARK_VALUES` of the C header. Case by case.
 -- Assumes nothing.
 use mathlib.Core.Path.{_≡_, refl}
-use lib.ListN.{length}
+use mathlib.Core.List.{List, [], _∷_, _++_}
+use Prim.Native.Nat.{ℕ}
+use lib.ListN.{length, getD}
 use Rattle.plan_outcome.specs.declared.Reply.{Reply}
 use Rattle.plan_outcome.specs.declared.Reply.the-variants as Reply·
 use Rattle.judge_marks.specs.declared.Mark.{Mark}
 use Rattle.judge_marks.specs.declared.Mark.the-variants.{Broken, Short, Valid, Refused}
-use Rattle.host_values.specs.Values.{replyValues, markValues}
+use Rattle.judge_marks.specs.declared.BothMarks.{BothMarks}
+use Rattle.final_better.specs.declared.Part.{Part}
+use Rattle.host_values.specs.Values.{replyValues, markKind, markValues, betterNumber, finalValues}
 
 pub reply-count : (r : Reply) → length (replyValues r) ≡ 5
 unfolding replyValues
@@ -20,3 +24,22 @@ mark-count (Refused f) = refl
 mark-count (Broken b) = refl
 mark-count (Short e) = refl
 mark-count (Valid v) = refl
+
+-- the two values of a mark, one by one
+mark-two : (m : Mark) → markValues m ≡ getD (markValues m) 0 0 ∷ getD (markValues m) 1 0 ∷ []
+unfolding markValues
+mark-two (Refused f) = refl
+mark-two (Broken b) = refl
+mark-two (Short e) = refl
+mark-two (Valid v) = refl
+
+-- those of a final, one by one
+pub final-nine : (m : BothMarks) (p : Part) (a b : List ℕ) (k j n x y : ℕ) → k ≡ markKind (m .first) → a ≡ markValues (m .first) → j ≡ markKind (m .second)
+    → b ≡ markValues (m .second) → n ≡ betterNumber (p .better) → x ≡ p .offset → y ≡ p .length
+    → k ∷ getD a 0 0 ∷ getD a 1 0 ∷ j ∷ getD b 0 0 ∷ getD b 1 0 ∷ n ∷ x ∷ y ∷ [] ≡ finalValues m p
+unfolding finalValues
+final-nine m p a b k j n x y e h e′ h′ better f g = rw (e, h, e′, h′, better, f, g, mark-two (m .first), mark-two (m .second)) refl
+
+pub final-count : (m : BothMarks) (p : Part) → length (finalValues m p) ≡ 9
+unfolding finalValues
+final-count m p = rw (mark-two (m .first), mark-two (m .second)) refl

@@ -1,4 +1,4 @@
--- The planner's reply and the judge's mark as numbers, for programs in other languages, and such numbers in what a host lends.
+-- The planner's reply, the judge's mark and the marks of a final as numbers, for programs in other languages, and such numbers in what a host lends.
 -- Assumes nothing.
 use mathlib.Core.List.{List, [], _∷_, _++_}
 use Prim.Native.Nat.{ℕ}
@@ -8,7 +8,11 @@ use Rattle.plan_outcome.specs.declared.Reply.{Reply}
 use Rattle.plan_outcome.specs.declared.Reply.the-variants as Reply·
 use Rattle.judge_marks.specs.declared.Mark.{Mark}
 use Rattle.judge_marks.specs.declared.Mark.the-variants.{Broken, Short, Valid, Refused}
+use Rattle.judge_marks.specs.declared.BothMarks.{BothMarks}
 use Rattle.judge_marks.specs.Marks.{reasonNumber}
+use Rattle.final_better.specs.declared.Better.{Better}
+use Rattle.final_better.specs.declared.Better.the-variants.{First, Second, Neither}
+use Rattle.final_better.specs.declared.Part.{Part}
 
 -- refused, plan, none
 unfoldable pub replyKind : Reply → ℕ
@@ -35,6 +39,17 @@ markValues (Refused f) = ruleNumber (f .rule) ∷ f .place ∷ []
 markValues (Broken b) = b .step ∷ reasonNumber (b .reason) ∷ []
 markValues (Short e) = e ∷ 0 ∷ []
 markValues (Valid v) = v .cost ∷ v .excess ∷ []
+
+-- the first file, the second, neither
+unfoldable pub betterNumber : Better → ℕ
+betterNumber First = 0
+betterNumber Second = 1
+betterNumber Neither = 2
+
+-- both marks in file order, each as its kind and its two numbers; the better file, and offset and length of its step records
+unfoldable pub finalValues : BothMarks → Part → List ℕ
+finalValues m p =
+    (markKind (m .first) ∷ markValues (m .first)) ++ (markKind (m .second) ∷ markValues (m .second)) ++ (betterNumber (p .better) ∷ p .offset ∷ p .length ∷ [])
 
 -- values in front of what a host lends, as many as there is room for; later entries keep their values
 unfoldable pub valuesIn : List ℕ → List ℕ → List ℕ

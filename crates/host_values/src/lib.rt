@@ -1,11 +1,14 @@
-// The planner's reply and the judge's mark as numbers, for programs in other languages.
+// The planner's reply, the judge's mark and the marks of a final as numbers, for programs in other languages.
+use final_better::Better;
+use final_better::Part;
 use judge_line::reason_number;
+use judge_marks::BothMarks;
 use judge_marks::Mark;
 use network::refusal::number;
 use plan_outcome::Reply;
 ghost use mathlib.Core.Path.{_≡_};
 ghost use lib.ListN.{length};
-ghost use Rattle.host_values.specs.Values.{replyKind, replyValues, markKind, markValues, valuesIn};
+ghost use Rattle.host_values.specs.Values.{replyKind, replyValues, markKind, markValues, betterNumber, finalValues, valuesIn};
 
 pub fn reply_kind(reply: Reply) -> u64
     ensures { λ r. ⌜ r ≡ replyKind reply ⌝ }
@@ -62,6 +65,38 @@ pub fn mark_values(mark: Mark) -> [u64; 2]
         Mark::Short(element) => [element as u64, 0],
         Mark::Valid(score) => [score.cost, score.excess],
     }
+}
+
+pub fn better_number(better: Better) -> u64
+    ensures { λ r. ⌜ r ≡ betterNumber better ⌝ }
+{
+    match better {
+        Better::First => 0,
+        Better::Second => 1,
+        Better::Neither => 2,
+    }
+}
+
+// Both marks with their kinds, the better file, and where its step records stand.
+pub fn final_values(marks: BothMarks, part: Part) -> [u64; 9]
+    ensures { λ r. ⌜ r ≡ finalValues marks part ⌝ }
+{
+    let first = marks.first;
+    let second = marks.second;
+    let better = part.better;
+    let one = mark_values(first);
+    let other = mark_values(second);
+    [
+        mark_kind(first),
+        one[0],
+        one[1],
+        mark_kind(second),
+        other[0],
+        other[1],
+        better_number(better),
+        part.offset as u64,
+        part.length as u64,
+    ]
 }
 
 // As many of the values as there is room for into the front of `lent`; how many there are in any case.

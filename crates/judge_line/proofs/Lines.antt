@@ -1,12 +1,11 @@
--- Each case of the mark has its line in front of the buffer. By the laws of `texts`, case by case.
+-- Each case of the mark has its line at an offset. By the laws of `texts`, case by case.
 -- Assumes nothing.
-use mathlib.Core.Path.{_≡_, refl, sym, subst}
+use mathlib.Core.Path.{_≡_, sym, subst}
 use mathlib.Core.List.{List}
-use Prim.Native.Nat.{ℕ, _≤_}
-use lib.ListN.{length}
+use Prim.Native.Nat.{ℕ}
 use Rattle.network.specs.declared.refusal.Refusal.{Refusal}
-use Rattle.texts.specs.Texts.{field, feed, lineOf, refusedLine, inFront}
-use Rattle.texts.proofs.Pieces.{Put, front-line, front-one}
+use Rattle.texts.specs.Texts.{field, feed, lineOf, refusedLine}
+use Rattle.texts.proofs.Pieces.{Put, line-one, line-same}
 use Rattle.judge_marks.specs.declared.BadStep.{BadStep}
 use Rattle.judge_marks.specs.declared.Score.{Score}
 use Rattle.judge_marks.specs.declared.Mark.{Mark}
@@ -14,25 +13,23 @@ use Rattle.judge_marks.specs.declared.Mark.the-variants.{Broken, Short, Valid, 
 use Rattle.judge_marks.specs.Marks.{reasonNumber}
 use Rattle.judge_line.specs.MarkLines.{brokenWord, shortWord, validWord, markLine}
 
--- what is promised of the line: its length, and the buffer
-abbrev Stands : List ℕ → ℕ → List ℕ → Mark → Type 0
-Stands l k l′ m = (k ≡ length (markLine m)) × (l′ ≡ inFront (markLine m) l)
+module _ (l l′ : List ℕ) (at k : ℕ) (m : Mark) where
+  -- what is promised of the line: the place behind it, and the buffer
+  abbrev Stands : Mark → Type 0
+  Stands x = Put l at l′ k (markLine x)
 
-module _ (l : List ℕ) (m : Mark) where
-  pub broken-line : (l′ : List ℕ) (k x y : ℕ) (b : BadStep) → m ≡ Broken b → k ≤ length l → Put l 0 l′ k (lineOf brokenWord x y) → x ≡ b .step
-      → y ≡ reasonNumber (b .reason) → Stands l k l′ m
+  pub broken-put : (x y : ℕ) (b : BadStep) → m ≡ Broken b → Put l at l′ k (lineOf brokenWord x y) → x ≡ b .step → y ≡ reasonNumber (b .reason) → Stands m
   unfolding markLine
-  broken-line l′ k x y b e h put step reason = subst (Stands l k l′) (sym e) (front-line l l′ k x y (b .step) (reasonNumber (b .reason)) brokenWord h put step reason)
+  broken-put x y b e put step reason = subst Stands (sym e) (line-same l l′ at k x y (b .step) (reasonNumber (b .reason)) brokenWord put step reason)
 
-  pub short-line : (l₁ l₂ l₃ : List ℕ) (i j k x e : ℕ) → m ≡ Short e → k ≤ length l → Put l 0 l₁ i shortWord → Put l₁ i l₂ j (field x) → Put l₂ j l₃ k feed
-      → x ≡ e → Stands l k l₃ m
+  pub short-put : (l₁ l₂ : List ℕ) (i j x e : ℕ) → m ≡ Short e → Put l at l₁ i shortWord → Put l₁ i l₂ j (field x) → Put l₂ j l′ k feed → x ≡ e → Stands m
   unfolding markLine
-  short-line l₁ l₂ l₃ i j k x e same h put first end is = subst (Stands l k l₃) (sym same) (front-one l l₁ l₂ l₃ i j k x e shortWord h put first end is)
+  short-put l₁ l₂ i j x e same put first end is = subst Stands (sym same) (line-one l l₁ l₂ l′ at i j k x e shortWord put first end is)
 
-  pub valid-line : (l′ : List ℕ) (k : ℕ) (v : Score) → m ≡ Valid v → k ≤ length l → Put l 0 l′ k (lineOf validWord (v .cost) (v .excess)) → Stands l k l′ m
+  pub valid-put : (x y : ℕ) (v : Score) → m ≡ Valid v → Put l at l′ k (lineOf validWord x y) → x ≡ v .cost → y ≡ v .excess → Stands m
   unfolding markLine
-  valid-line l′ k v e h put = subst (Stands l k l′) (sym e) (front-line l l′ k (v .cost) (v .excess) (v .cost) (v .excess) validWord h put refl refl)
+  valid-put x y v e put cost excess = subst Stands (sym e) (line-same l l′ at k x y (v .cost) (v .excess) validWord put cost excess)
 
-  pub refused-line : (l′ : List ℕ) (k : ℕ) (f : Refusal) → m ≡ Refused f → (k ≡ length (refusedLine f)) × (l′ ≡ inFront (refusedLine f) l) → Stands l k l′ m
+  pub refused-put : (f : Refusal) → m ≡ Refused f → Put l at l′ k (refusedLine f) → Stands m
   unfolding markLine
-  refused-line l′ k f e h = subst (Stands l k l′) (sym e) h
+  refused-put f e put = subst Stands (sym e) put

@@ -17,16 +17,17 @@ use Rattle.feeding.specs.Safety.{Safe}
 use Rattle.feeding.proofs.Below.{and-left, and-right, and-both, not-in, not-out}
 use Rattle.feeding.proofs.Lows.{lowest-is, lowest-map, lowest-unique, none-place}
 use Rattle.feeding.proofs.Tests.{live?-in, live?-out, dark-out, restorable?-in, restorable?-out, operable?-in, operable?-out}
-use Rattle.plan_problem.specs.Choosing.{CostsLeastBy, CostsLeast, NoneCheaperBy, NoneCheaper, PromisedBy, Promised, Choice, nothing, chosen, planned, printedPlan}
+use Rattle.plan_problem.specs.Choosing.{CostsLeastBy, CostsLeast, NoPlan, NoneCheaperBy, NoneCheaper, PromisedBy, Promised, Choice, nothing, chosen, planned, printedPlan}
 use Rattle.plan_problem.proofs.Choices.{PromisedChoice, planned-promised, cheapest-unique, promised-least}
 use Rattle.judge_marks.specs.declared.BadStep.{BadStep}
 use Rattle.judge_marks.specs.declared.Examined.{Examined}
 use Rattle.judge_marks.specs.declared.Examined.the-variants.{AllGood, Bad}
+use Rattle.judge_marks.specs.declared.Standing.the-variants as Standing·
 use Rattle.judge_marks.specs.declared.Score.{Score}
 use Rattle.judge_marks.specs.declared.Mark.{Mark}
 use Rattle.judge_marks.specs.declared.Mark.the-variants as Mark·
 use Rattle.judge_marks.specs.Marks.{StillDark, ValidBy, MarkedBy, Marked, broken, short, valid}
-use Rattle.judge_marks.specs.Marks.{stepsExamined, darkPlace, scoredBy, markAt, markAfter, markBy, costIn, cheapestUnder, cheapestCost, scored, markUnder, markOf}
+use Rattle.judge_marks.specs.Marks.{stepsExamined, darkPlace, standingAt, standingAfter, standingBy, scoredAt, markWith, markBy, costIn, cheapestUnder, cheapestCost, standingOf, markUnder, markOf}
 use Rattle.judge_marks.proofs.Examining.{examined-good, good-examined, examined-broken, broken-examined}
 
 module _ (net : Net) (formed : Formed (net .grid)) where
@@ -74,30 +75,26 @@ module _ (net : Net) (formed : Formed (net .grid)) where
     mark q = markBy net op? price cheapest q
 
     gives-broken : (q : List Step) (b : BadStep) → found q ≡ Bad b → mark q ≡ Mark·.Broken b
-    unfolding markBy markAfter
-    gives-broken q b h = ap (markAfter net (scoredBy price cheapest q) q) h
+    unfolding markBy markWith standingBy standingAfter
+    gives-broken q b h = ap (λ (x : Examined). markWith cheapest (standingAfter net price q x)) h
 
     gives-short : (q : List Step) → found q ≡ AllGood → ltb (dark q) (net .grid .E) ≡ true → mark q ≡ Mark·.Short (dark q)
-    unfolding markBy markAfter markAt
-    gives-short q h t = ap (markAfter net (scoredBy price cheapest q) q) h ∙ rw (t, markAt)
+    unfolding markBy markWith standingBy standingAfter standingAt
+    gives-short q h t = ap (λ (x : Examined). markWith cheapest (standingAfter net price q x)) h ∙ rw (t, standingAt)
 
-    gives-score : (q : List Step) → found q ≡ AllGood → ltb (dark q) (net .grid .E) ≡ false → mark q ≡ scoredBy price cheapest q
-    unfolding markBy markAfter markAt
-    gives-score q h t = ap (markAfter net (scoredBy price cheapest q) q) h ∙ rw (t, markAt)
+    gives-score : (q : List Step) → found q ≡ AllGood → ltb (dark q) (net .grid .E) ≡ false → mark q ≡ scoredAt cheapest (price q)
+    unfolding markBy markWith standingBy standingAfter standingAt
+    gives-score q h t = ap (λ (x : Examined). markWith cheapest (standingAfter net price q x)) h ∙ rw (t, standingAt)
 
-    pub score-room-by : (q : List Step) → Valid net op (Restored net) q → (cost least : ℕ) → cost ≡ price q
-        → CostsLeastBy net op (Restored net) price least → least ≤ cost
-    score-room-by q v cost least e h = omega (arith, h .least q v)
-
-    pub score-is-by : (q : List Step) → Valid net op (Restored net) q → (cost least : ℕ) → cost ≡ price q
-        → CostsLeastBy net op (Restored net) price least → Mark·.Valid (record { cost = cost; excess = cost - least }) ≡ scoredBy price cheapest q
-    unfolding scoredBy
+    score-is-by : (q : List Step) → Valid net op (Restored net) q → (cost least : ℕ) → cost ≡ price q
+        → CostsLeastBy net op (Restored net) price least → Mark·.Valid (record { cost = cost; excess = cost - least }) ≡ scoredAt cheapest (price q)
+    unfolding scoredAt
     score-is-by q v cost least e h = rw (e, cheapest-unique net op (Restored net) price least cheapest h (least-of q v))
 
     -- ---- the mark is as the paper says
 
-    scored-by : (q : List Step) → Valid net op (Restored net) q → MarkedBy net op price q (scoredBy price cheapest q)
-    unfolding scoredBy
+    scored-by : (q : List Step) → Valid net op (Restored net) q → MarkedBy net op price q (scoredAt cheapest (price q))
+    unfolding scoredAt
     scored-by q v =
         let least = least-of q v in
         let above : price q ≡ cheapest + (price q - cheapest) = omega (arith, least .least q v) in
@@ -124,7 +121,7 @@ module _ (net : Net) (formed : Formed (net .grid)) where
     good-found : (q : List Step) → Good net op (net .startClosed) q → found q ≡ AllGood
     good-found q = good-examined net formed op op? op-in op-out (net .startClosed) 1 q
 
-    valid-scored : (q : List Step) → Valid net op (Restored net) q → mark q ≡ scoredBy price cheapest q
+    valid-scored : (q : List Step) → Valid net op (Restored net) q → mark q ≡ scoredAt cheapest (price q)
     valid-scored q v = gives-score q (good-found q (v .good)) (restored-none (run (net .startClosed) q) (v .meets))
 
     pub marked-mark-by : (q : List Step) (m : Mark) → MarkedBy net op price q m → m ≡ markBy net op? price cheapest q
@@ -146,10 +143,17 @@ module _ (net : Net) (formed : Formed (net .grid)) where
         go : MarkedBy net op price q (Mark·.Valid v) → ValidBy net op price q v
         go (valid r) = r
 
+    -- a plan that stands complete is valid, so the cheapest cost is at most its own
+    pub complete-room-by : (q : List Step) (cost : ℕ) → standingBy net op? price q ≡ Standing·.Complete cost → cheapest ≤ cost
+    unfolding markBy markWith scoredAt
+    complete-room-by q cost e =
+        let r = valid-by q _ (ap (markWith cheapest) e) in
+        omega (arith, r .own, least-of q (r .valid) .least q (r .valid))
+
     pub valid-exactly-by : (q : List Step)
         → (((v : Score) × (markBy net op? price cheapest q ≡ Mark·.Valid v)) → Valid net op (Restored net) q)
         × (Valid net op (Restored net) q → (v : Score) × (markBy net op? price cheapest q ≡ Mark·.Valid v))
-    unfolding scoredBy
+    unfolding scoredAt
     valid-exactly-by q = (λ h. valid-by q (h .0) (h .1) .valid, λ v. (_, valid-scored q v))
 
     -- an excess of 0 says that no valid plan is cheaper
@@ -183,12 +187,21 @@ module _ (net : Net) (formed : Formed (net .grid)) where
         go (chosen D) p =
             subst (CostsLeast net) (p .own) (promised-least net (Operable net) (Restored net) (costOf net) (printedForm net D) _ p)
 
-    pub score-room : (q : List Step) → ValidPlan net q → (cost least : ℕ) → cost ≡ costOf net q → CostsLeast net least → least ≤ cost
-    score-room = score-room-by (Operable net) (operable? net) (operable?-in net formed) (operable?-out net formed) (costOf net) (cheapestCost net) cheapest-least
+    -- the cheapest cost by what the planner promises of it
+    pub cost-cheapest : (least : ℕ) → CostsLeast net least → least ≡ cheapestCost net
+    cost-cheapest least h =
+        cheapest-unique net (Operable net) (Restored net) (costOf net) least (cheapestCost net) h (cheapest-least (h .plan) (h .valid))
 
-    pub score-is : (q : List Step) → ValidPlan net q → (cost least : ℕ) → cost ≡ costOf net q → CostsLeast net least
-        → Mark·.Valid (record { cost = cost; excess = cost - least }) ≡ scored net q
-    score-is = score-is-by (Operable net) (operable? net) (operable?-in net formed) (operable?-out net formed) (costOf net) (cheapestCost net) cheapest-least
+    pub none-cheapest : NoPlan net → 0 ≡ cheapestCost net
+    unfolding cheapestUnder costIn printedPlan
+    none-cheapest none = go (planned net) (planned-promised net formed start-safe)
+      where
+        go : (x : Choice) → PromisedChoice net x → 0 ≡ costIn (costOf net) (printedPlan net x)
+        go nothing p = refl
+        go (chosen D) p = absurd (none (printedForm net D) (p .valid))
+
+    pub complete-room : (q : List Step) (cost : ℕ) → standingOf net q ≡ Standing·.Complete cost → cheapestCost net ≤ cost
+    complete-room = complete-room-by (Operable net) (operable? net) (operable?-in net formed) (operable?-out net formed) (costOf net) (cheapestCost net) cheapest-least
 
     pub mark-marked : (q : List Step) → Marked net q (markOf net q)
     unfolding markUnder

@@ -6,11 +6,12 @@ use mathlib.Core.List.{List, [], _∷_, _++_}
 use Prim.Native.Nat.{ℕ, suc, _+_, _-_, _≤_, _<_}
 use lib.Dec.{ltb}
 use lib.ListN.{length}
+use Rattle.network.specs.Refusals.{pick}
 use Rattle.feeding.specs.Below.{Lowest, lowest}
 use Rattle.feeding.specs.Networks.{Net}
 use Rattle.feeding.specs.Parts.{Config, Live, live?}
 use Rattle.feeding.specs.Safety.{Safe, safe?}
-use Rattle.feeding.specs.Restoration.{Restorable, Operable, Restored, restorable?}
+use Rattle.feeding.specs.Restoration.{Restorable, Operable, Restored, restorable?, operable?}
 use Rattle.feeding.specs.Tasks.{Task, restoration}
 use Rattle.feeding.specs.Plans.{Step, Good, Valid, put, run, differ}
 use Rattle.feeding.specs.Costs.{costOf}
@@ -20,6 +21,8 @@ use Rattle.judge_marks.specs.declared.Reason.the-variants.{NotOperable, 
 use Rattle.judge_marks.specs.declared.BadStep.{BadStep}
 use Rattle.judge_marks.specs.declared.Examined.{Examined}
 use Rattle.judge_marks.specs.declared.Examined.the-variants.{AllGood, Bad}
+use Rattle.judge_marks.specs.declared.Standing.{Standing}
+use Rattle.judge_marks.specs.declared.Standing.the-variants as Standing·
 use Rattle.judge_marks.specs.declared.Score.{Score}
 use Rattle.judge_marks.specs.declared.Mark.{Mark}
 use Rattle.judge_marks.specs.declared.Mark.the-variants as Mark·
@@ -108,20 +111,39 @@ stepsExamined net op c i (s ∷ q) = firstBad (stepExamined net op c i s) (steps
 unfoldable pub darkPlace : Net → Config → ℕ
 darkPlace net c = lowest (net .grid .E) (λ e. restorable? net e && not (live? (net .grid) c e))
 
--- VALID with the cost of the steps, and what of it is above the cheapest cost
-unfoldable pub scoredBy : (List Step → ℕ) → ℕ → List Step → Mark
-scoredBy price cheapest q = Mark·.Valid (record { cost = price q; excess = price q - cheapest })
+-- where all steps are good, by the lowest element still dark; complete, with its cost, where none is
+unfoldable pub standingAt : Net → ℕ → ℕ → Standing
+standingAt net cost dark = elim (ltb dark (net .grid .E)) [ true ↦ Standing·.Short dark | false ↦ Standing·.Complete cost ]
 
--- where all steps are good, by the lowest element still dark; `score` where none is
-unfoldable pub markAt : Net → Mark → ℕ → Mark
-markAt net score dark = elim (ltb dark (net .grid .E)) [ true ↦ Mark·.Short dark | false ↦ score ]
+unfoldable pub standingAfter : Net → (List Step → ℕ) → List Step → Examined → Standing
+standingAfter net price q AllGood = standingAt net (price q) (darkPlace net (run (net .startClosed) q))
+standingAfter net price q (Bad b) = Standing·.Broken b
 
-unfoldable pub markAfter : Net → Mark → List Step → Examined → Mark
-markAfter net score q AllGood = markAt net score (darkPlace net (run (net .startClosed) q))
-markAfter net score q (Bad b) = Mark·.Broken b
+-- how a list of steps stands before the cheapest cost is known
+unfoldable pub standingBy : Net → (ℕ → Bool) → (List Step → ℕ) → List Step → Standing
+standingBy net op price q = standingAfter net price q (stepsExamined net op (net .startClosed) 1 q)
+
+-- the cheapest cost is asked for
+unfoldable pub complete? : Standing → Bool
+complete? (Standing·.Broken b) = false
+complete? (Standing·.Short e) = false
+complete? (Standing·.Complete cost) = true
+
+-- VALID with a cost, and what of it is above the cheapest cost
+unfoldable pub scoredAt : ℕ → ℕ → Mark
+scoredAt cheapest cost = Mark·.Valid (record { cost = cost; excess = cost - cheapest })
+
+unfoldable pub markWith : ℕ → Standing → Mark
+markWith cheapest (Standing·.Broken b) = Mark·.Broken b
+markWith cheapest (Standing·.Short e) = Mark·.Short e
+markWith cheapest (Standing·.Complete cost) = scoredAt cheapest cost
+
+-- where a plan stands complete, it costs at least this
+abbrev pub AtMost : ℕ → Standing → Type 0
+AtMost least found = (cost : ℕ) → found ≡ Standing·.Complete cost → least ≤ cost
 
 unfoldable pub markBy : Net → (ℕ → Bool) → (List Step → ℕ) → ℕ → List Step → Mark
-markBy net op price cheapest q = markAfter net (scoredBy price cheapest q) q (stepsExamined net op (net .startClosed) 1 q)
+markBy net op price cheapest q = markWith cheapest (standingBy net op price q)
 
 -- ---- for a task
 
@@ -141,8 +163,12 @@ markUnder net t q = markBy net (t .operable?) (t .cost) (cheapestUnder net t) q
 abbrev pub cheapestCost : Net → ℕ
 cheapestCost net = cheapestUnder net (restoration net)
 
-abbrev pub scored : Net → List Step → Mark
-scored net q = scoredBy (costOf net) (cheapestCost net) q
+-- where it is asked for
+unfoldable pub costAsked : Net → Bool → ℕ
+costAsked net asked = pick asked (cheapestCost net) 0
+
+abbrev pub standingOf : Net → List Step → Standing
+standingOf net q = standingBy net (operable? net) (costOf net) q
 
 abbrev pub markOf : Net → List Step → Mark
 markOf net q = markUnder net (restoration net) q

@@ -20,6 +20,13 @@ pub enum Examined {
     Bad(BadStep),
 }
 
+// How a plan stands before the cheapest cost is known: what it costs, where its steps are good and leave nothing dark.
+pub enum Standing {
+    Broken(BadStep),
+    Short(usize),
+    Complete(u64),
+}
+
 // What a valid plan costs, and how much of it is above the cheapest cost.
 pub struct Score {
     pub cost: u64,
@@ -31,4 +38,10 @@ pub enum Mark {
     Short(usize),
     Valid(Score),
     Refused(Refusal),
+}
+
+// The marks of two plans in one network, in file order.
+pub struct BothMarks {
+    pub first: Mark,
+    pub second: Mark,
 }

@@ -1,8 +1,9 @@
--- Each way through the functions ends in the mark that the definition gives. By the laws of `judge_marks`, and of the planner by `CheapestIn` alone.
+-- Each way through the functions ends in the standing or mark that the definition gives. By the laws of `judge_marks`, and of the planner by `CheapestIn` alone.
 -- Assumes nothing.
 use mathlib.Core.Path.{_≡_, refl, sym, ap, _∙_, subst}
+use mathlib.Core.Bool.{Bool, true, false, not, _||_}
 use mathlib.Core.List.{List}
-use Prim.Native.Nat.{ℕ, _-_, _<_, _≤_}
+use Prim.Native.Nat.{ℕ, _<_, _≤_}
 use native.Mathlib.Omega.{arith}
 use borrow.Author.Tests.{lt-ltb, le-ltb}
 use Rattle.network.specs.declared.Network.{Network}
@@ -14,10 +15,9 @@ use Rattle.file_plan.specs.Accepted.{WellFormedPlan}
 use Rattle.feeding.specs.Below.{bits}
 use Rattle.feeding.specs.Networks.{Net, netOf, gridOf, isIn}
 use Rattle.feeding.specs.Acceptance.{Starts}
-use Rattle.feeding.specs.Plans.{Step, Good, ValidPlan, run}
+use Rattle.feeding.specs.Plans.{Step, run}
 use Rattle.feeding.specs.Costs.{costOf}
-use Rattle.feeding.specs.Restoration.{Operable, operable?}
-use Rattle.feeding.proofs.Tests.{operable?-in, operable?-out}
+use Rattle.feeding.specs.Restoration.{operable?}
 use Rattle.feeding.proofs.Views.{formed-net}
 use Rattle.feeding_restoration.proofs.Sets.{set-at}
 use Rattle.plan_form.specs.Printing.{stepsOf}
@@ -27,46 +27,25 @@ use Rattle.plan_least_cost.specs.LeastCost.{CheapestIn}
 use Rattle.judge_marks.specs.declared.BadStep.{BadStep}
 use Rattle.judge_marks.specs.declared.Examined.{Examined}
 use Rattle.judge_marks.specs.declared.Examined.the-variants.{AllGood, Bad}
+use Rattle.judge_marks.specs.declared.Standing.{Standing}
+use Rattle.judge_marks.specs.declared.Standing.the-variants as Standing·
 use Rattle.judge_marks.specs.declared.Mark.{Mark}
 use Rattle.judge_marks.specs.declared.Mark.the-variants as Mark·
-use Rattle.judge_marks.specs.Marks.{stepsExamined, darkPlace, scored, markAt, markAfter, markBy, markUnder, markOf}
-use Rattle.judge_marks.proofs.Examining.{examined-good}
-use Rattle.judge_marks.proofs.Marking.{dark-restored, score-is, score-room}
+use Rattle.judge_marks.specs.Marks.{stepsExamined, darkPlace, standingAt, standingAfter, standingBy, standingOf, complete?, costAsked, AtMost, cheapestCost, markWith, markBy, markUnder, markOf}
+use Rattle.judge_marks.proofs.Marking.{cost-cheapest, none-cheapest, complete-room}
 use Rattle.judge_steps.proofs.Front.{steps-below}
 use Rattle.judge_examine.proofs.Examining.{examined-same}
 
--- ---- a valid plan, its cost and the cheapest one
-
-module _ (n : Network) (q : List Step) (w : WellFormed n) (st : Starts (netOf n)) (v : ValidPlan (netOf n) q) (cost : ℕ) (own : cost ≡ costOf (netOf n) q)
-    (r : Cheapest) (is : CheapestIn (netOf n) r) where
-  pub least-room : (least : ℕ) → r ≡ Cheapest·.Cost least → least ≤ cost
-  least-room least e = score-room (netOf n) (formed-net n w) (st .safe) q v cost least own (subst (CheapestIn (netOf n)) e is)
-
-  pub cost-scored : (least : ℕ) → r ≡ Cheapest·.Cost least → (x y : ℕ) → x ≡ cost → y ≡ cost - least
-      → Mark·.Valid (record { cost = x; excess = y }) ≡ scored (netOf n) q
-  cost-scored least e x y f g = rw (f, g) (score-is (netOf n) (formed-net n w) (st .safe) q v cost least own (subst (CheapestIn (netOf n)) e is))
-
-  -- there is a valid plan, so neither of the other answers is given
-  pub none-scored : r ≡ Cheapest·.NoPlan → (m : Mark) → m ≡ scored (netOf n) q
-  none-scored e m = absurd (subst (CheapestIn (netOf n)) e is q v)
-
-  pub refused-scored : (f : Refusal) → r ≡ Cheapest·.Refused f → (m : Mark) → m ≡ scored (netOf n) q
-  refused-scored f e m = absurd (subst (CheapestIn (netOf n)) e is)
-
 -- ---- all steps are good
 
-module _ (net : Net) (score : Mark) (place dark : ℕ) (is : dark ≡ place) where
-  pub short-at : dark < net .grid .E → Mark·.Short dark ≡ markAt net score place
-  unfolding markAt
-  short-at h = rw (lt-ltb place (net .grid .E) (omega arith), markAt) (ap Mark·.Short is)
+module _ (net : Net) (cost place dark : ℕ) (is : dark ≡ place) where
+  pub short-at : dark < net .grid .E → Standing·.Short dark ≡ standingAt net cost place
+  unfolding standingAt
+  short-at h = rw (lt-ltb place (net .grid .E) (omega arith), standingAt) (ap Standing·.Short is)
 
-  pub scored-at : net .grid .E ≤ dark → (m : Mark) → m ≡ score → m ≡ markAt net score place
-  unfolding markAt
-  scored-at h m e = rw (le-ltb place (net .grid .E) (omega arith), markAt) e
-
-pub good-valid : (n : Network) (q : List Step) (dark : ℕ) → WellFormed n → Good (netOf n) (Operable (netOf n)) (netOf n .startClosed) q
-    → dark ≡ darkPlace (netOf n) (run (netOf n .startClosed) q) → netOf n .grid .E ≤ dark → ValidPlan (netOf n) q
-good-valid n q dark w good is h = record { good = good; meets = dark-restored (netOf n) (formed-net n w) (run (netOf n .startClosed) q) (omega arith) }
+  pub complete-at : net .grid .E ≤ dark → (x : ℕ) → x ≡ cost → Standing·.Complete x ≡ standingAt net cost place
+  unfolding standingAt
+  complete-at h x e = rw (le-ltb place (net .grid .E) (omega arith), standingAt) (ap Standing·.Complete e)
 
 -- ---- what the steps are found to be, with the set of operable switches that is handed in
 
@@ -81,17 +60,73 @@ module _ (n : Network) (w : WellFormed n) (p : Plan) (v : WellFormedPlan (n .lin
       ∙ examined-same (netOf n) (formed-net n w) (isIn operable) (operable? (netOf n)) (set-at n w (n .links) _ operable (w .links-fit) operable-is)
       (netOf n .startClosed) (netOf n .startClosed) (λ _ _. refl) 1 (stepsOf p) (steps-below (n .links) p v)
 
-  pub broken-mark : (b : BadStep) → x ≡ Bad b → Mark·.Broken b ≡ markOf (netOf n) (stepsOf p)
-  unfolding markUnder markBy markAfter
-  broken-mark b e = ap (markAfter (netOf n) (scored (netOf n) (stepsOf p)) (stepsOf p)) (sym e ∙ found-is)
+  pub broken-standing : (b : BadStep) → x ≡ Bad b → Standing·.Broken b ≡ standingOf (netOf n) (stepsOf p)
+  unfolding standingBy standingAfter
+  broken-standing b e = ap (standingAfter (netOf n) (costOf (netOf n)) (stepsOf p)) (sym e ∙ found-is)
 
-  pub good-mark : x ≡ AllGood → (m : Mark)
-      → m ≡ markAt (netOf n) (scored (netOf n) (stepsOf p)) (darkPlace (netOf n) (run (netOf n .startClosed) (stepsOf p))) → m ≡ markOf (netOf n) (stepsOf p)
-  unfolding markUnder markBy markAfter
-  good-mark e m h = h ∙ ap (markAfter (netOf n) (scored (netOf n) (stepsOf p)) (stepsOf p)) (sym e ∙ found-is)
+  pub good-standing : x ≡ AllGood → (f : Standing)
+      → f ≡ standingAt (netOf n) (costOf (netOf n) (stepsOf p)) (darkPlace (netOf n) (run (netOf n .startClosed) (stepsOf p))) → f ≡ standingOf (netOf n) (stepsOf p)
+  unfolding standingBy standingAfter
+  good-standing e f h = h ∙ ap (standingAfter (netOf n) (costOf (netOf n)) (stepsOf p)) (sym e ∙ found-is)
 
-  pub all-good : x ≡ AllGood → Good (netOf n) (Operable (netOf n)) (netOf n .startClosed) (stepsOf p)
-  all-good e =
-      let formed = formed-net n w in
-      examined-good (netOf n) formed (Operable (netOf n)) (operable? (netOf n)) (operable?-in (netOf n) formed) (operable?-out (netOf n) formed) (netOf n .startClosed) 1 (stepsOf p)
-      (sym found-is ∙ e)
+-- ---- one of two asks
+
+pub first-asks : (one other : Standing) (r : Bool) → r ≡ (complete? one || complete? other) → complete? one ≡ true → r ≡ true
+first-asks one other r e h = e ∙ ap (λ (x : Bool). x || complete? other) h
+
+pub second-asks : (one other : Standing) (r : Bool) → r ≡ (complete? one || complete? other) → complete? other ≡ true → r ≡ true
+second-asks one other r e h = e ∙ go (complete? one)
+  where
+    go : (a : Bool) → (a || complete? other) ≡ true
+    go true = refl
+    go false = h
+
+-- ---- the cheapest cost, where it is asked for
+
+-- the test of the code is `!asked`
+not-false : (a : Bool) → not a ≡ true → a ≡ false
+not-false true e = sym e
+not-false false e = refl
+
+not-true : (a : Bool) → not a ≡ false → a ≡ true
+not-true true e = refl
+not-true false e = sym e
+
+module _ (n : Network) (w : WellFormed n) (st : Starts (netOf n)) where
+  pub not-asked : (asked : Bool) → not asked ≡ true → 0 ≡ costAsked (netOf n) asked
+  unfolding costAsked
+  not-asked asked e = rw (not-false asked e)
+
+  module _ (asked : Bool) (is : not asked ≡ false) (r : Cheapest) (found : CheapestIn (netOf n) r) where
+    pub asked-cost : (least : ℕ) → r ≡ Cheapest·.Cost least → (x : ℕ) → x ≡ least → x ≡ costAsked (netOf n) asked
+    unfolding costAsked
+    asked-cost least e x same =
+        rw (not-true asked is) (same ∙ cost-cheapest (netOf n) (formed-net n w) (st .safe) least (subst (CheapestIn (netOf n)) e found))
+
+    pub asked-none : r ≡ Cheapest·.NoPlan → (x : ℕ) → x ≡ 0 → x ≡ costAsked (netOf n) asked
+    unfolding costAsked
+    asked-none e x same = rw (not-true asked is) (same ∙ none-cheapest (netOf n) (formed-net n w) (st .safe) (subst (CheapestIn (netOf n)) e found))
+
+    pub asked-refused : (f : Refusal) → r ≡ Cheapest·.Refused f → (x : ℕ) → x ≡ costAsked (netOf n) asked
+    asked-refused f e x = absurd (subst (CheapestIn (netOf n)) e found)
+
+  -- ---- the mark of a plan that stands so, by the cheapest cost where this plan, or another, asks for it
+
+  module _ (q : List Step) (found : Standing) (is : found ≡ standingOf (netOf n) q) (asked : Bool) (asks : complete? found ≡ true → asked ≡ true)
+      (least : ℕ) (least-is : least ≡ costAsked (netOf n) asked) where
+    pub asked-room : AtMost least found
+    unfolding complete? costAsked
+    asked-room cost e =
+        let on : asked ≡ true = asks (ap complete? e) in
+        let same : least ≡ cheapestCost (netOf n) = least-is ∙ ap (costAsked (netOf n)) on in
+        omega (arith, same, complete-room (netOf n) (formed-net n w) (st .safe) q cost (sym is ∙ e))
+
+    pub asked-mark : (m : Mark) → m ≡ markWith least found → m ≡ markOf (netOf n) q
+    unfolding markUnder markBy markWith complete? costAsked
+    asked-mark m h = h ∙ go found asks ∙ ap (markWith (cheapestCost (netOf n))) is
+      where
+        go : (x : Standing) → (complete? x ≡ true → asked ≡ true) → markWith least x ≡ markWith (cheapestCost (netOf n)) x
+        go (Standing·.Broken b) a = refl
+        go (Standing·.Short d) a = refl
+        go (Standing·.Complete cost) a =
+            ap (λ (l : ℕ). markWith l (Standing·.Complete cost)) (least-is ∙ ap (costAsked (netOf n)) (a refl))

@@ -32,7 +32,7 @@ use Rattle.texts.specs.Texts.{digits, decimal, field, lineOf, refusedLine}
 use Rattle.plan_lines.specs.Lines.{planLine, stepLine, stepLines, loadLine, textOf, replyText, tailLines, planLines, noneLines}
 use Rattle.plan_outcome.specs.Outcomes.{outcomeWith, outcomeWithout, outcomeFrom, outcomeFor, outcomeAnswered, outcomeRead, outcomeBy}
 use Rattle.planner.specs.Replies.{linesWith, linesOf}
-use Rattle.judge_marks.specs.Marks.{examined, firstBad, stepExamined, stepsExamined, darkPlace, scoredBy, markAt, markAfter, markBy, costIn, cheapestUnder, markUnder}
+use Rattle.judge_marks.specs.Marks.{examined, firstBad, stepExamined, stepsExamined, darkPlace, standingAt, standingAfter, standingBy, scoredAt, markWith, markBy, costIn, cheapestUnder, markUnder}
 use Rattle.judge_line.specs.MarkLines.{markLine}
 use Rattle.judge.specs.Judging.{markAccepted, markRead, markOfRead, markForBy}
 use Rattle.starred.specs.Tables.{head, element, joins, networkB, networkD, noSteps, closing, text, prints, plans, marks, cases}
@@ -47,6 +47,6 @@ unfolding emptyNetwork nextStage word lengthOf frameRulesBy headRules flagsRules
     acceptedFrom acceptedRead worksBy firstIf noDearer better best plannedBy printedPlan sumsOver sumsAfter emptyPlan withOne planWith endBytes digits decimal field planLine
     stepLine stepLines loadLine textOf replyText tailLines planLines noneLines refusedLine outcomeWith outcomeWithout outcomeFrom outcomeFor outcomeAnswered outcomeRead
     outcomeBy linesWith linesOf withStep planEndOnBy stepsOnBy planFileBy planInputBy planBehindBy bothInputBy bothRead stepsTo stepsOf examined firstBad
-    stepExamined stepsExamined darkPlace scoredBy markAt markAfter markBy costIn cheapestUnder markUnder lineOf markLine markAccepted markRead markOfRead
+    stepExamined stepsExamined darkPlace standingAt standingAfter standingBy scoredAt markWith markBy costIn cheapestUnder markUnder lineOf markLine markAccepted markRead markOfRead
     markForBy planHeadBytes stepBytes head element joins networkB networkD noSteps closing text prints plans marks cases
 tried = refl

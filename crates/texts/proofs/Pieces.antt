@@ -122,22 +122,9 @@ pub line-of : (l l₁ l₂ l₃ l₄ : List ℕ) (at i j k m a b : ℕ) (word : 
 unfolding lineOf
 line-of l l₁ l₂ l₃ l₄ at i j k m a b word put first second end = line-two l l₁ l₂ l₃ l₄ at i j k m a b a b word put first second end refl refl
 
--- as the only line
-pub front-line : (l l′ : List ℕ) (k x y a b : ℕ) (word : List ℕ) → k ≤ length l → Put l 0 l′ k (lineOf word x y) → x ≡ a → y ≡ b
-    → (k ≡ length (lineOf word a b)) × (l′ ≡ inFront (lineOf word a b) l)
-front-line l l′ k x y a b word h put e e′ = put-front l l′ k (lineOf word a b) h (rw (e, e′) at put)
-
--- a word and one number as the only line
-pub front-one :
-    (l l₁ l₂ l₃ : List ℕ) (i j k x a : ℕ) (word : List ℕ) →
-    k ≤ length l →
-    Put l 0 l₁ i word →
-    Put l₁ i l₂ j (field x) →
-    Put l₂ j l₃ k feed →
-    x ≡ a →
-    (k ≡ length (word ++ field a ++ feed)) × (l₃ ≡ inFront (word ++ field a ++ feed) l)
-front-one l l₁ l₂ l₃ i j k x a word h put first end e =
-    put-front l l₃ k (word ++ field a ++ feed) h (line-one l l₁ l₂ l₃ 0 i j k x a word put first end e)
+-- with numbers that the writer hands on
+pub line-same : (l l′ : List ℕ) (at k x y a b : ℕ) (word : List ℕ) → Put l at l′ k (lineOf word x y) → x ≡ a → y ≡ b → Put l at l′ k (lineOf word a b)
+line-same l l′ at k x y a b word put e e′ = rw (e, e′) at put
 
 -- the text in front of a buffer is counted by its length
 pub front-counted : (text buffer : List ℕ) → Counted (length text) (inFront text buffer)

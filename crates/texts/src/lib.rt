@@ -70,13 +70,23 @@ pub fn put_line(out: &mut [u8], at: usize, word: &[u8], first: u64, second: u64)
     put_feed(out, last)
 }
 
+// `REFUSED number place`.
+pub fn put_refused(out: &mut [u8], at: usize, refused: Refusal) -> usize
+    requires { ⌜ at + 50 ≤ length (now out) ⌝ }
+    ensures { λ r. ⌜ r ≤ at + 50 ⌝ }
+    ensures { λ r. ⌜ r ≡ at + length (refusedLine refused) ⌝ }
+    ensures { λ _. ⌜ now (out .exit) ≡ sets (now (out .entry)) at (refusedLine refused) ⌝ }
+{
+    let rule = refused.rule;
+    let number = refusal::number(rule) as u64;
+    let place = refused.place as u64;
+    put_line(out, at, b"REFUSED", number, place)
+}
+
 // `REFUSED number place`, the only line.
 pub fn refused_line(refused: Refusal, out: &mut [u8; 4096]) -> usize
     ensures { λ r. ⌜ r ≡ length (refusedLine refused) ⌝ }
     ensures { λ _. ⌜ now (out .exit) ≡ inFront (refusedLine refused) (now (out .entry)) ⌝ }
 {
-    let rule = refused.rule;
-    let number = refusal::number(rule) as u64;
-    let place = refused.place as u64;
-    put_line(out, 0, b"REFUSED", number, place)
+    put_refused(out, 0, refused)
 }

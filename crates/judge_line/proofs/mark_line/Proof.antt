@@ -1,119 +1,20 @@
--- `judge_line::mark_line` meets its contract: each arm writes its case's line, whose length is bounded by the digits of 64 bits.
+-- `judge_line::mark_line` meets its contract: put from the start, the line stands in front of the buffer.
 -- Assumes nothing.
 use native.Mathlib.Omega.{arith}
-use Rattle.texts.proofs.Pieces.{field-64}
-use Rattle.judge_line.proofs.Lines.{broken-line, short-line, valid-line, refused-line}
+use Rattle.texts.proofs.Pieces.{put-front}
+use Rattle.judge_line.specs.MarkLines.{markLine}
 use borrow.Author.Needs.{needs}
 use Rattle.judge_line.proofs.mark_line.Statement.{statement}
 use Rattle.judge_line.proofs.mark_line.Tie as tie
 
-enum-known-mark : tie.Need-enum-known-mark
-enum-known-mark c =
-    search needs
-
-reason-number-requires : tie.Need-reason-number-requires
-reason-number-requires c κs =
-    search needs
-
-cast-number : tie.Need-cast-number
-cast-number c =
-    search needs
-
-slice-aggregate-put-line : tie.Need-slice-aggregate-put-line
-slice-aggregate-put-line c =
-    search needs
-
-put-line-requires : tie.Need-put-line-requires
-put-line-requires c κs =
-    search needs
-
-enum-known-mark-2 : tie.Need-enum-known-mark-2
-enum-known-mark-2 c =
-    search needs
-
-slice-aggregate-put-text : tie.Need-slice-aggregate-put-text
-slice-aggregate-put-text c =
-    search needs
-
-put-text-requires : tie.Need-put-text-requires
-put-text-requires c κs =
-    search needs
-
-put-field-requires : tie.Need-put-field-requires
-put-field-requires c κs =
-    let mark2· = c .before .before .before .before .before .mark2 in
-    omega (arith, field-64 (mark2· .given .0 .0) (omega arith))
-
-put-feed-requires : tie.Need-put-feed-requires
-put-feed-requires c κs =
-    let mark2· = c .before .before .before .before .before .before .before .mark2 in
-    omega (arith, field-64 (mark2· .given .0 .0) (omega arith))
-
-enum-known-mark-3 : tie.Need-enum-known-mark-3
-enum-known-mark-3 c =
-    search needs
-
-slice-aggregate-put-line-2 : tie.Need-slice-aggregate-put-line-2
-slice-aggregate-put-line-2 c =
-    search needs
-
-put-line-requires-2 : tie.Need-put-line-requires-2
-put-line-requires-2 c κs =
-    search needs
-
-enum-known-mark-4 : tie.Need-enum-known-mark-4
-enum-known-mark-4 c =
-    search needs
-
-refused-line-requires : tie.Need-refused-line-requires
-refused-line-requires c κs =
+put-mark-requires : tie.Need-put-mark-requires
+put-mark-requires c κs =
     search needs
 
 returns : tie.Need-returns
 returns c =
-    let args· = c .before .before .before .before .before .before .before .args in
-    let mark· = c .before .before .before .before .before .mark in
-    broken-line (args· .out .now) (args· .mark) _ _ _ _ (mark· .given .0 .0) (mark· .given .1) (omega arith) (c .put-line .ensures .1) (omega arith) (omega arith)
-
-returns-2 : tie.Need-returns-2
-returns-2 c =
-    let args· = c .before .before .before .before .before .before .before .before .before .before .args in
-    let mark2· = c .before .before .before .before .before .before .before .before .mark2 in
-    let put-text· = c .before .before .before .before .put-text in
-    short-line (args· .out .now) (args· .mark) _ _ _ _ _ _ _ (mark2· .given .0 .0) (mark2· .given .1) (omega (arith, field-64 (mark2· .given .0 .0) (omega arith))) (put-text· .ensures) (c .before .before .put-field .ensures) (c .put-feed .ensures) (omega arith)
-
-returns-3 : tie.Need-returns-3
-returns-3 c =
-    let args· = c .before .before .before .before .before .before .args in
-    let mark3· = c .before .before .before .before .mark3 in
-    valid-line (args· .out .now) (args· .mark) _ _ (mark3· .given .0 .0) (mark3· .given .1) (omega arith) (c .put-line2 .ensures .1)
-
-returns-4 : tie.Need-returns-4
-returns-4 c =
-    let args· = c .before .before .before .before .before .args in
-    let mark4· = c .before .before .before .mark4 in
-    refused-line (args· .out .now) (args· .mark) _ _ (mark4· .given .0 .0) (mark4· .given .1) (c .refused-line .ensures)
+    let args· = c .before .before .args in
+    put-front (args· .out .now) _ _ (markLine (args· .mark)) (omega arith) (c .put-mark .ensures .1)
 
 pub mark-line-spec : {M : Type 1} → statement M
-mark-line-spec =
-    tie.close
-    (tie.spec
-    enum-known-mark
-    reason-number-requires
-    cast-number
-    slice-aggregate-put-line
-    put-line-requires
-    enum-known-mark-2
-    slice-aggregate-put-text
-    put-text-requires
-    put-field-requires
-    put-feed-requires
-    enum-known-mark-3
-    slice-aggregate-put-line-2
-    put-line-requires-2
-    enum-known-mark-4
-    refused-line-requires
-    returns
-    returns-2
-    returns-3
-    returns-4)
+mark-line-spec = tie.close (tie.spec put-mark-requires returns)

@@ -4,10 +4,9 @@ use mathlib.Core.Path.{_∙_}
 use native.Mathlib.Omega.{arith}
 use Rattle.feeding.specs.Networks.{netOf, gridOf}
 use Rattle.feeding_start.proofs.Starts.{closed-of}
-use Rattle.plan_form.specs.Printing.{stepsOf}
 use Rattle.judge_steps.proofs.Configurations.{finished-dark}
 use Rattle.judge_steps.proofs.Front.{plan-in}
-use Rattle.judge_score.proofs.Ways.{short-at, scored-at, good-valid}
+use Rattle.judge_score.proofs.Ways.{short-at, complete-at}
 use borrow.Author.Needs.{needs}
 use Rattle.judge_score.proofs.finished.Statement.{statement}
 use Rattle.judge_score.proofs.finished.Tie as tie
@@ -16,7 +15,7 @@ states-after-requires : tie.Need-states-after-requires
 states-after-requires c κs =
     let args· = c .before .args in
     let pre· = c .before .pre in
-    plan-in (args· .start .net) (args· .plan) (pre· .0 .formed) (pre· .1 .0)
+    plan-in (args· .start .net) (args· .plan) (pre· .0 .formed) (pre· .1)
 
 slice-aggregate-lowest-dark : tie.Need-slice-aggregate-lowest-dark
 slice-aggregate-lowest-dark c =
@@ -33,16 +32,12 @@ returns c =
     let lowest-dark· = c .before .before .lowest-dark in
     let pre· = c .before .before .before .before .before .before .pre in
     let states-after· = c .before .before .before .before .states-after in
-    short-at (netOf (args· .start .net)) _ _ (lowest-dark· .result) (lowest-dark· .ensures ∙ finished-dark (args· .start .net) (args· .plan) _ _ (pre· .0 .formed) (pre· .1 .0) (closed-of (args· .start) _ (pre· .0 .made)) (states-after· .ensures)) (omega (arith, (c .if1)))
+    short-at (netOf (args· .start .net)) _ _ (lowest-dark· .result) (lowest-dark· .ensures ∙ finished-dark (args· .start .net) (args· .plan) _ _ (pre· .0 .formed) (pre· .1) (closed-of (args· .start) _ (pre· .0 .made)) (states-after· .ensures)) (omega (arith, (c .if1)))
 
-score-requires : tie.Need-score-requires
-unfolding netOf gridOf
-score-requires c κs =
+plan-cost-requires : tie.Need-plan-cost-requires
+plan-cost-requires c κs =
     let pre· = c .before .before .before .before .before .before .pre in
-    let args· = c .before .before .before .before .before .before .args in
-    let lowest-dark· = c .before .before .lowest-dark in
-    let states-after· = c .before .before .before .before .states-after in
-    (pre· .0, (pre· .1 .0, good-valid (args· .start .net) (stepsOf (args· .plan)) (lowest-dark· .result) (pre· .0 .formed) (pre· .1 .1) (lowest-dark· .ensures ∙ finished-dark (args· .start .net) (args· .plan) _ _ (pre· .0 .formed) (pre· .1 .0) (closed-of (args· .start) _ (pre· .0 .made)) (states-after· .ensures)) (omega (arith, (c .if1)))))
+    (pre· .0 .formed, pre· .1)
 
 returns-2 : tie.Need-returns-2
 unfolding netOf gridOf
@@ -51,7 +46,7 @@ returns-2 c =
     let lowest-dark· = c .before .before .before .lowest-dark in
     let pre· = c .before .before .before .before .before .before .before .pre in
     let states-after· = c .before .before .before .before .before .states-after in
-    scored-at (netOf (args· .start .net)) _ _ (lowest-dark· .result) (lowest-dark· .ensures ∙ finished-dark (args· .start .net) (args· .plan) _ _ (pre· .0 .formed) (pre· .1 .0) (closed-of (args· .start) _ (pre· .0 .made)) (states-after· .ensures)) (omega (arith, (c .before .if1))) _ (c .score .ensures)
+    complete-at (netOf (args· .start .net)) _ _ (lowest-dark· .result) (lowest-dark· .ensures ∙ finished-dark (args· .start .net) (args· .plan) _ _ (pre· .0 .formed) (pre· .1) (closed-of (args· .start) _ (pre· .0 .made)) (states-after· .ensures)) (omega (arith, (c .before .if1))) _ (c .plan-cost .ensures)
 
 pub finished-spec : {M : Type 1} → statement M
 finished-spec =
@@ -61,5 +56,5 @@ finished-spec =
     slice-aggregate-lowest-dark
     lowest-dark-requires
     returns
-    score-requires
+    plan-cost-requires
     returns-2)

@@ -1,46 +1,48 @@
--- `judge_score::marked` meets its contract: the first bad step decides, and where there is none the steps are good.
+-- `judge_score::marked` meets its contract: how the plan stands, and where it is complete the cheapest cost, give its mark.
 -- Assumes nothing.
-use Rattle.feeding_start.proofs.Starts.{operable-of, begun-searchable}
-use Rattle.judge_score.proofs.Ways.{broken-mark, good-mark, all-good}
+use mathlib.Core.Path.{_∙_}
+use Rattle.plan_form.specs.Printing.{stepsOf}
+use Rattle.judge_score.proofs.Ways.{asked-room, asked-mark}
 use borrow.Author.Needs.{needs}
 use Rattle.judge_score.proofs.marked.Statement.{statement}
 use Rattle.judge_score.proofs.marked.Tie as tie
 
-examine-requires : tie.Need-examine-requires
-examine-requires c κs =
-    let pre· = c .pre in
-    (begun-searchable (c .args .start) (pre· .0), pre· .1)
-
-enum-known-examined : tie.Need-enum-known-examined
-enum-known-examined c =
+standing-of-requires : tie.Need-standing-of-requires
+standing-of-requires c κs =
     search needs
 
-enum-told : tie.Need-enum-told
-enum-told c =
+complete-requires : tie.Need-complete-requires
+complete-requires c κs =
     search needs
 
-finished-requires : tie.Need-finished-requires
-finished-requires c κs =
-    let pre· = c .before .before .before .pre in
+least-asked-requires : tie.Need-least-asked-requires
+least-asked-requires c κs =
+    search needs
+
+mark-with-requires : tie.Need-mark-with-requires
+mark-with-requires c κs =
     let args· = c .before .before .before .args in
-    let examine· = c .before .before .examine in
-    (pre· .0, (pre· .1, all-good (args· .start .net) (pre· .0 .formed) (args· .plan) (pre· .1) (args· .start .operable) (operable-of (args· .start) _ (pre· .0 .made)) (examine· .result) (examine· .ensures) (c .enum-told .given .1)))
+    let pre· = c .before .before .before .pre in
+    let standing-of· = c .before .before .standing-of in
+    let complete· = c .before .complete in
+    let least-asked· = c .least-asked in
+    asked-room (args· .start .net) (pre· .0 .formed) (pre· .0 .starts) (stepsOf (args· .plan)) (standing-of· .result) (standing-of· .ensures) (complete· .result) (λ h. complete· .ensures ∙ h) (least-asked· .result) (least-asked· .ensures)
 
 returns : tie.Need-returns
 returns c =
     let args· = c .before .before .before .before .args in
     let pre· = c .before .before .before .before .pre in
-    let examine· = c .before .before .before .examine in
-    broken-mark (args· .start .net) (pre· .0 .formed) (args· .plan) (pre· .1) (args· .start .operable) (operable-of (args· .start) _ (pre· .0 .made)) (examine· .result) (examine· .ensures) _ (c .before .examined .given .1)
-
-returns-2 : tie.Need-returns-2
-returns-2 c =
-    let args· = c .before .before .before .before .args in
-    let pre· = c .before .before .before .before .pre in
-    let examine· = c .before .before .before .examine in
-    good-mark (args· .start .net) (pre· .0 .formed) (args· .plan) (pre· .1) (args· .start .operable) (operable-of (args· .start) _ (pre· .0 .made)) (examine· .result) (examine· .ensures) (c .before .enum-told .given .1) _ (c .finished .ensures)
+    let standing-of· = c .before .before .before .standing-of in
+    let complete· = c .before .before .complete in
+    let least-asked· = c .before .least-asked in
+    asked-mark (args· .start .net) (pre· .0 .formed) (pre· .0 .starts) (stepsOf (args· .plan)) (standing-of· .result) (standing-of· .ensures) (complete· .result) (λ h. complete· .ensures ∙ h) (least-asked· .result) (least-asked· .ensures) _ (c .mark-with .ensures)
 
 pub marked-spec : {M : Type 1} → statement M
 marked-spec =
     tie.close
-    (tie.spec examine-requires enum-known-examined enum-told finished-requires returns returns-2)
+    (tie.spec
+    standing-of-requires
+    complete-requires
+    least-asked-requires
+    mark-with-requires
+    returns)

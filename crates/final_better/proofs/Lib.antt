@@ -1,0 +1,4 @@
+pub mod Marks
+pub mod Records
+pub mod Places
+pub mod Accepted
