@@ -6,14 +6,12 @@ use super::kinds::Lent;
 use super::laws;
 use crate::enumeration::finals::{self, Better, Final};
 use crate::independent::finals as independent;
-use crate::inputs;
-use crate::items::large;
 use crate::random::Random;
 use std::fmt::Debug;
 
 /// Of so many finals, every kind of reply must occur.
 const ENOUGH: usize = 100_000;
-const LEAST: Each<u64> = [1; 5];
+const LEAST: Each<u64> = [1; 6];
 
 /// What is answered to a final whose files are in one input, and lent apart.
 pub struct Answers {
@@ -71,24 +69,13 @@ fn equal<T: PartialEq + Debug>(what: &str, enumerated: T, other: T) -> Result<()
     Err(format!("{what}\nenumeration: {enumerated:?}\nindependent: {other:?}"))
 }
 
-/// Finals of any network; few are of the largest or the longest.
-fn any(r: &mut Random) -> Item {
-    match r.below(200) {
-        0 => Item::of(draw::longest(r)),
-        1 => Item::whole(draw::long(r, inputs::network)),
-        2 => draw::item(r, large),
-        3..110 => draw::item(r, inputs::brief),
-        _ => draw::item(r, inputs::network),
-    }
-}
-
 /// Compares them on so many finals, and holds their answers to what the documents say of any.
 pub fn compare(seed: u64, count: usize) -> Result<(), String> {
     let mut r = Random::new(seed);
     let mut coverage = Coverage::default();
     let (mut networks, mut finals) = (0, 0);
     while finals < count {
-        let item = any(&mut r);
+        let item = draw::any(&mut r);
         networks += 1;
         let found = compare_item(&mut r, &item, &mut coverage);
         found.map_err(|error| format!("seed {seed}, network {networks}: {error}"))?;

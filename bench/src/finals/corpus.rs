@@ -14,18 +14,18 @@ use std::path::Path;
 const SEED: u64 = 20_261_118;
 const BRIEF: usize = 250;
 const MIDDLE: usize = 16;
-const LONGEST: usize = 2;
+const LONGEST: usize = 1;
 
 /// The length of the longest input that is accepted: all elements are wide, all links but the first guarded, and both
 /// plans have 255 steps.
 const FULL: usize = 6350;
 
 /// Every kind of reply occurs at least so often in each group.
-const LEAST: Each<u64> = [25, 3, 5, 5, 10];
+const LEAST: Each<u64> = [25, 3, 10, 5, 5, 10];
 /// So many items are drawn at most for kinds that are too rare, and kept if all files together have at most so many
 /// bytes.
 const DRAWN: usize = 2_000_000;
-const KEPT: usize = 260;
+const KEPT: usize = 240;
 /// What both stored files have at most together.
 const MOST: usize = 300_000;
 

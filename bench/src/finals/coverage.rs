@@ -21,13 +21,14 @@ struct Group {
 const GROUPS: Each<Group> = [
     Group { name: "in all", has: |_, _| true, kinds: kinds::all },
     Group { name: "both marks", has: |_, _| true, kinds: kinds::pairs },
+    Group { name: "against the odds", has: |_, _| true, kinds: kinds::contests },
     Group { name: "with wide elements", has: |files, _| has(files, WIDE_ELEMENT), kinds: kinds::all },
     Group { name: "with guarded switches", has: |files, _| has(files, GUARDED_LINK), kinds: kinds::all },
     Group { name: "with guards in a cost", has: charges, kinds: kinds::costs },
 ];
 
 /// Something for each of these groups, in that order.
-pub type Each<T> = [T; 5];
+pub type Each<T> = [T; 6];
 
 /// Group, how the files were lent, kind.
 type Counted = (usize, Lent, String);

@@ -5,9 +5,21 @@ use super::pairs::pair;
 use crate::damage::{damaged, random_bytes};
 use crate::draft::{plan_file, Draft};
 use crate::independent;
-use crate::inputs::{brief_input, LONGEST};
+use crate::inputs::{self, brief_input, LONGEST};
+use crate::items::large;
 use crate::longest;
 use crate::random::Random;
+
+/// Finals of any network; few are of the largest or the longest.
+pub fn any(r: &mut Random) -> Item {
+    match r.below(200) {
+        0 => Item::of(longest(r)),
+        1 => Item::whole(long(r, inputs::network)),
+        2 => item(r, large),
+        3..110 => item(r, inputs::brief),
+        _ => item(r, inputs::network),
+    }
+}
 
 /// Mostly a network with pairs of plans; `network` draws it.
 pub fn item(r: &mut Random, network: fn(&mut Random) -> Draft) -> Item {

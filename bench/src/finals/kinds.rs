@@ -1,4 +1,5 @@
 //! The kinds of replies that finals get.
+use super::contest;
 use super::files::Files;
 use crate::counts::kind;
 use crate::enumeration::finals::{Asked, Better, Final, Held};
@@ -23,14 +24,18 @@ const RESULTS: [&str; 7] = [
     "NEITHER",
 ];
 
-/// The kinds of a reply: of each mark, both marks and who wins; or the refusal with the file that broke the rule.
+/// The kinds of a reply: of each mark, both marks, who wins and against which odds; or the refusal with the file that broke the rule.
 pub fn of(files: &Files, reply: &Final) -> Vec<String> {
     match reply {
         Final::Refused(refused) => vec![refusal(refused.asked, refused.rule)],
         Final::Held(held) => {
             let text = reply.text();
             let marks: Vec<String> = text.lines().map(|line| kind(line.as_bytes())).collect();
-            vec![first(&marks[0]), second(&marks[1]), pair(&marks[0], &marks[1]), result(files, held).to_string()]
+            let read = files.as_read();
+            let mut kinds = vec![first(&marks[0]), second(&marks[1]), pair(&marks[0], &marks[1])];
+            kinds.push(result(&read, held).to_string());
+            kinds.extend(contest::kinds_of(&read, held.costs()).into_iter().map(String::from));
+            kinds
         }
     }
 }
@@ -51,24 +56,20 @@ fn refusal(asked: Asked, rule: u64) -> String {
     format!("{asked:?} REFUSED {rule}")
 }
 
+/// Who wins between the plans of files that are accepted, and why.
 fn result(files: &Files, held: &Held) -> &'static str {
     match (held.better, held.costs()) {
         (Better::Neither, _) => "NEITHER",
         (Better::First, [_, None]) => "FIRST alone valid",
         (Better::First, [first, second]) if first != second => "FIRST cheaper",
-        (Better::First, _) => {
-            let [one, other] = files.as_read().plans;
-            if one == other {
-                return "FIRST with equal steps";
-            }
-            "FIRST at equal cost"
-        }
+        (Better::First, _) if files.plans[0] == files.plans[1] => "FIRST with equal steps",
+        (Better::First, _) => "FIRST at equal cost",
         (Better::Second, [None, _]) => "SECOND alone valid",
         (Better::Second, _) => "SECOND cheaper",
     }
 }
 
-/// All kinds that there are, but for those of both marks. Only a file lent apart meets rule 13 before another one.
+/// All kinds that there are, but for those of both marks and of odds. Only a file lent apart meets rule 13 before another one.
 pub fn all(lent: Lent) -> Vec<String> {
     let marks = MARKS.map(first).into_iter().chain(MARKS.map(second));
     let plan = || (1..=4).chain(10..=13);
@@ -85,6 +86,11 @@ pub fn all(lent: Lent) -> Vec<String> {
 /// All kinds of both marks.
 pub fn pairs(_: Lent) -> Vec<String> {
     MARKS.iter().flat_map(|one| MARKS.iter().map(|other| pair(one, other))).collect()
+}
+
+/// All kinds of pairs that are won against the odds.
+pub fn contests(_: Lent) -> Vec<String> {
+    contest::KINDS.map(String::from).to_vec()
 }
 
 /// The kinds in which a cost is printed.

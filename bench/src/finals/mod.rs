@@ -1,7 +1,8 @@
 //! Trial finals: pairs of plans for a network, what both implementations answer to them, and the stored corpus.
 pub mod comparison;
+mod contest;
 pub mod corpus;
-mod coverage;
+pub mod coverage;
 mod cuts;
 pub mod draw;
 mod files;
@@ -11,4 +12,4 @@ mod pairs;
 mod tried;
 mod tried_refusals;
 
-pub use files::Files;
+pub use files::{Files, Item};

@@ -1,4 +1,5 @@
 //! Pairs of plans for one network.
+use super::contest::{self, Entry};
 use crate::draft::plan_file;
 use crate::independent::{self, Mark};
 use crate::plans::{self, Step};
@@ -17,7 +18,7 @@ pub fn pair(r: &mut Random, network: &[u8]) -> [Vec<u8>; 2] {
     [plan_file(&first), plan_file(&second)]
 }
 
-/// Any plans, equal ones, ones of equal cost, one valid, none valid, or empty ones.
+/// Any plans, equal ones, ones of equal cost, contested ones, one valid, none valid, or empty ones.
 fn steps(r: &mut Random, network: &[u8]) -> [Steps; 2] {
     match r.below(20) {
         0..6 => [any(r, network), any(r, network)],
@@ -27,7 +28,7 @@ fn steps(r: &mut Random, network: &[u8]) -> [Steps; 2] {
         }
         7..9 => equal_plans(r, network),
         9..13 => equal_costs(r, network),
-        13..15 => [wanted(r, network, true), wanted(r, network, true)],
+        13..15 => contested(r, network),
         15..17 => {
             let pair = [wanted(r, network, true), wanted(r, network, false)];
             in_any_order(r, pair)
@@ -89,6 +90,24 @@ fn equal_costs(r: &mut Random, network: &[u8]) -> [Steps; 2] {
         }
     }
     [first, any(r, network)]
+}
+
+/// Valid plans of which the other would win if fewer steps did or guards cost nothing, if they are drawn.
+fn contested(r: &mut Random, network: &[u8]) -> [Steps; 2] {
+    let drawn = (0..TRIES).map(|_| any(r, network)).collect::<Vec<_>>().into_iter();
+    let valid = drawn.filter_map(|steps| cost(network, &steps).map(|cost| (cost, steps)));
+    let valid: Vec<(Entry, Steps)> = valid.map(|(cost, steps)| (entry(network, &steps, cost), steps)).collect();
+    let pairs = valid.iter().flat_map(|first| valid.iter().map(move |second| [first, second]));
+    let is_contested = |pair: &[&(Entry, Steps); 2]| !contest::kinds(pair.map(|plan| plan.0)).is_empty();
+    let contested: Vec<[&(Entry, Steps); 2]> = pairs.filter(is_contested).collect();
+    if contested.is_empty() {
+        return [wanted(r, network, true), wanted(r, network, true)];
+    }
+    r.pick(&contested).map(|plan| plan.1.clone())
+}
+
+fn entry(network: &[u8], steps: &[Step], cost: u64) -> Entry {
+    Entry::of(network, &plan_file(steps), cost)
 }
 
 /// The same steps in another order, or another plan.
