@@ -24,7 +24,8 @@ const RESULTS: [&str; 7] = [
     "NEITHER",
 ];
 
-/// The kinds of a reply: of each mark, both marks, who wins and against which odds; or the refusal with the file that broke the rule.
+/// The kinds of a reply: of each mark, both marks, who wins and against which odds; or the refusal with the file that
+/// broke the rule.
 pub fn of(files: &Files, reply: &Final) -> Vec<String> {
     match reply {
         Final::Refused(refused) => vec![refusal(refused.asked, refused.rule)],
@@ -69,7 +70,8 @@ fn result(files: &Files, held: &Held) -> &'static str {
     }
 }
 
-/// All kinds that there are, but for those of both marks and of odds. Only a file lent apart meets rule 13 before another one.
+/// All kinds that there are, but for those of both marks and of odds. Only a file lent apart meets rule 13 before
+/// another one.
 pub fn all(lent: Lent) -> Vec<String> {
     let marks = MARKS.map(first).into_iter().chain(MARKS.map(second));
     let plan = || (1..=4).chain(10..=13);
