@@ -107,7 +107,7 @@ impl Corpus {
     }
 }
 
-fn put_part(bytes: &mut Vec<u8>, part: &[u8]) {
+pub fn put_part(bytes: &mut Vec<u8>, part: &[u8]) {
     bytes.extend((part.len() as u16).to_le_bytes());
     bytes.extend(part);
 }
@@ -144,7 +144,7 @@ pub fn write(folder: &Path) -> Result<(), String> {
     corpus.report()
 }
 
-fn put_file(folder: &Path, name: &str, bytes: &[u8]) -> Result<(), String> {
+pub fn put_file(folder: &Path, name: &str, bytes: &[u8]) -> Result<(), String> {
     let path = folder.join(name);
     std::fs::write(&path, bytes).map_err(|error| format!("{}: {error}", path.display()))
 }

@@ -49,7 +49,7 @@ impl Counts {
 }
 
 /// The first word, with a refusal's number, a broken plan's reason, and whether a valid plan is a cheapest one.
-fn kind(text: &[u8]) -> String {
+pub fn kind(text: &[u8]) -> String {
     let text = String::from_utf8_lossy(text);
     let words: Vec<&str> = text.lines().next().unwrap_or("").split(' ').collect();
     match words[..] {

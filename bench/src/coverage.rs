@@ -69,7 +69,7 @@ pub fn listed(rare: &Each<Vec<String>>) -> String {
     named.map(|(group, kinds)| format!("{} {}", group.name, kinds.join(", "))).collect::<Vec<_>>().join("; ")
 }
 
-fn has_any_of(input: &[u8], kind: u16) -> bool {
+pub fn has_any_of(input: &[u8], kind: u16) -> bool {
     !records_of(input, kind).is_empty()
 }
 

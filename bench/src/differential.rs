@@ -19,7 +19,7 @@ const PATTERN: u8 = b'~';
 const MORE: usize = 200;
 
 /// What values hold before a call: a number that no reply has, so that one left unwritten shows.
-const UNWRITTEN: u64 = u64::MAX;
+pub const UNWRITTEN: u64 = u64::MAX;
 
 /// Of so many inputs, every kind of reply and mark must occur, with wide elements and with guarded switches too.
 const ENOUGH: usize = 20_000;
@@ -28,7 +28,7 @@ const LEAST: Each<u64> = [1; 6];
 const WIDENED: usize = 4;
 
 /// What differed, and what each side gave.
-type Difference = String;
+pub type Difference = String;
 
 /// Draws an input.
 type Draw = fn(&mut Random) -> Vec<u8>;
@@ -104,8 +104,8 @@ fn compare(input: &[u8], room: usize, coverage: &mut Coverage) -> Result<(), Dif
     let (mut plan_text, mut mark_text) = (vec![], vec![]);
     independent::plan_text(input, &mut plan_text);
     independent::mark_text(input, &mut mark_text);
-    same_text("the planner's lines", input, library::plan_text, &plan_text)?;
-    same_text("the judge's line", input, library::mark_text, &mark_text)?;
+    same_text("the planner's lines", |out| library::plan_text(input, out), &plan_text)?;
+    same_text("the judge's line", |out| library::mark_text(input, out), &mark_text)?;
     let reply = independent::plan(input);
     let needed = file_length(&reply);
     for (room, places) in [(needed + MORE, 8), (needed, 5), (needed.saturating_sub(1), 4), (room, room % 8)] {
@@ -131,7 +131,7 @@ fn file_length(reply: &Reply) -> usize {
     }
 }
 
-fn same<T: PartialEq + Debug>(what: &str, proved: T, other: T) -> Result<(), Difference> {
+pub fn same<T: PartialEq + Debug>(what: &str, proved: T, other: T) -> Result<(), Difference> {
     if proved == other {
         return Ok(());
     }
@@ -139,10 +139,10 @@ fn same<T: PartialEq + Debug>(what: &str, proved: T, other: T) -> Result<(), Dif
 }
 
 /// Into more room than needed, just enough and too little by one: the length handed back, and the bytes.
-fn same_text(what: &str, input: &[u8], write: fn(&[u8], &mut [u8]) -> usize, text: &[u8]) -> Result<(), Difference> {
+pub fn same_text(what: &str, write: impl Fn(&mut [u8]) -> usize, text: &[u8]) -> Result<(), Difference> {
     for room in [text.len() + MORE, text.len(), text.len() - 1] {
         let (mut out, mut wanted) = (vec![PATTERN; room], vec![PATTERN; room]);
-        let length = write(input, &mut out);
+        let length = write(&mut out);
         if text.len() <= room {
             wanted[..text.len()].copy_from_slice(text);
         }
@@ -167,7 +167,7 @@ fn same_reply(input: &[u8], reply: &Reply, room: usize, places: usize) -> Result
 }
 
 /// The values, as many as there are places for; a place behind them keeps what it held.
-fn in_places(values: &[u64], places: usize) -> Vec<u64> {
+pub fn in_places(values: &[u64], places: usize) -> Vec<u64> {
     let mut lent = vec![UNWRITTEN; places];
     let fit = places.min(values.len());
     lent[..fit].copy_from_slice(&values[..fit]);

@@ -10,6 +10,7 @@ pub mod damage;
 pub mod draft;
 pub mod element_damage;
 pub mod enumeration;
+pub mod finals;
 pub mod guarded;
 pub mod hard;
 pub mod heavy;

@@ -1,7 +1,11 @@
 //! The proved planner and judge, from the static library, beside independent ones: equal replies, the ratio of their
 //! times, the stack they need.
 mod differential;
+#[cfg(feature = "finals")]
+mod finals_differential;
 mod library;
+#[cfg(feature = "finals")]
+mod library_finals;
 mod lines;
 mod stack;
 mod timing;
@@ -11,8 +15,11 @@ use std::process::ExitCode;
 
 const SEED: u64 = 2026;
 const COUNT: usize = 250_000;
+#[cfg(feature = "finals")]
+const FINALS: usize = 50_000;
 const EXAMPLES: &str = concat!(env!("CARGO_MANIFEST_DIR"), "/../examples");
-const USAGE: &str = "bench differential [SEED [COUNT]] | time [SEED] | lines [SEED] | stack [EXAMPLES]";
+const USAGE: &str =
+    "bench differential [SEED [COUNT]] | finals [SEED [COUNT]] | time [SEED] | lines [SEED] | stack [EXAMPLES]";
 
 fn number(arguments: &[String], at: usize, usual: u64) -> Result<u64, String> {
     match arguments.get(at) {
@@ -25,6 +32,8 @@ fn run(arguments: &[String]) -> Result<(), String> {
     let (name, rest) = arguments.split_first().ok_or(USAGE)?;
     match name.as_str() {
         "differential" => differential::run(number(rest, 0, SEED)?, number(rest, 1, COUNT as u64)? as usize),
+        #[cfg(feature = "finals")]
+        "finals" => finals_differential::run(number(rest, 0, SEED)?, number(rest, 1, FINALS as u64)? as usize),
         "time" => {
             timing::run(number(rest, 0, SEED)?);
             Ok(())

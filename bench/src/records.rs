@@ -3,6 +3,7 @@ use std::ops::Range;
 
 pub const NARROW_ELEMENT: u16 = 2;
 pub const LINK: u16 = 3;
+pub const PLAN_HEAD: u16 = 5;
 pub const STEP: u16 = 6;
 pub const WIDE_ELEMENT: u16 = 7;
 pub const GUARDED_LINK: u16 = 8;

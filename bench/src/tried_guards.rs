@@ -8,7 +8,7 @@ fn guarded(draft: Draft, guards: &[(usize, usize)]) -> Draft {
 }
 
 /// Closing link 4 costs 2 and twice the 1 of link 0.
-fn guarded_b() -> Draft {
+pub fn guarded_b() -> Draft {
     guarded(network_b(), &[(4, 0)])
 }
 

@@ -1,16 +1,18 @@
-//! The corpus of crates/test_corpus, and the enumeration beside the independent planner and judge on more networks;
-//! without the proved library.
-use bench::{comparison, corpus};
+//! The corpora of crates/test_corpus and bench/finals, and the enumeration beside the independent implementation on more
+//! networks and finals; without the proved library.
+use bench::{comparison, corpus, finals};
 use std::path::Path;
 use std::process::ExitCode;
 
-const USAGE: &str = "corpus write FOLDER | compare SEED COUNT";
+const USAGE: &str = "corpus write FOLDER | compare SEED COUNT | write-finals FOLDER | compare-finals SEED COUNT";
 
 fn run(arguments: &[&str]) -> Result<(), String> {
     let number = |text: &str| text.parse::<u64>().map_err(|_| format!("{text} is no number"));
     match arguments {
         ["write", folder] => corpus::write(Path::new(folder)),
         ["compare", seed, count] => comparison::compare(number(seed)?, number(count)? as usize),
+        ["write-finals", folder] => finals::corpus::write(Path::new(folder)),
+        ["compare-finals", seed, count] => finals::comparison::compare(number(seed)?, number(count)? as usize),
         _ => Err(USAGE.to_string()),
     }
 }

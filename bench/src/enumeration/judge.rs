@@ -7,6 +7,7 @@ use super::safety::is_safe;
 use super::start::Start;
 use super::table::Table;
 
+#[derive(Clone, Copy)]
 pub enum Mark {
     Broken { step: usize, reason: u64 },
     Short { element: usize },

@@ -44,7 +44,7 @@ pub fn read_network_and_plan(input: &[u8]) -> Result<(Network, Vec<Step>), Refus
     Ok((network, steps))
 }
 
-fn network_file(records: &mut Records) -> Result<Network, Refusal> {
+pub fn network_file(records: &mut Records) -> Result<Network, Refusal> {
     let head = records.next(&[NETWORK_HEAD])?;
     let (elements, links) = (head.field(0), head.field(1));
     head.refuse_if(elements < 1 || MOST_ELEMENTS < elements || MOST_LINKS < links, 5)?;
@@ -86,7 +86,7 @@ fn guard(record: &Record, earlier: &[Link]) -> Result<usize, Refusal> {
     Ok(guard)
 }
 
-fn plan_file(records: &mut Records, links: u64) -> Result<Vec<Step>, Refusal> {
+pub fn plan_file(records: &mut Records, links: u64) -> Result<Vec<Step>, Refusal> {
     let head = records.next(&[PLAN_HEAD])?;
     let steps = head.field(0);
     head.refuse_if(MOST_STEPS < steps, 10)?;

@@ -63,6 +63,11 @@ impl<'a> Records<'a> {
         Ok(record)
     }
 
+    /// The offset of what is due next.
+    pub fn at(&self) -> usize {
+        self.at
+    }
+
     /// Rule 13: nothing may follow.
     pub fn end(self) -> Result<(), Refusal> {
         if self.at < self.input.len() {

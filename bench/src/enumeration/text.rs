@@ -22,7 +22,7 @@ pub fn mark_text(input: &[u8]) -> String {
     }
 }
 
-fn refused_line(Refusal { rule, place }: Refusal) -> String {
+pub fn refused_line(Refusal { rule, place }: Refusal) -> String {
     format!("REFUSED {rule} {place}\n")
 }
 
@@ -40,7 +40,7 @@ fn reply_lines(Reply { plan, sums }: &Reply) -> String {
     lines
 }
 
-fn mark_line(mark: Mark) -> String {
+pub fn mark_line(mark: Mark) -> String {
     match mark {
         Mark::Broken { step, reason } => format!("BROKEN {step} {reason}\n"),
         Mark::Short { element } => format!("SHORT {element}\n"),

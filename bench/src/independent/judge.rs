@@ -15,7 +15,7 @@ pub enum Mark {
 
 pub fn mark(input: &[u8]) -> Mark {
     match read(input) {
-        Ok((accepted, submitted)) => mark_accepted(&accepted, submitted),
+        Ok((accepted, submitted)) => mark_accepted(&accepted, &submitted, &mut None),
         Err(refusal) => Mark::Refused(refusal),
     }
 }
@@ -29,7 +29,8 @@ fn read(input: &[u8]) -> Result<(Accepted, Submitted<'_>), Refusal> {
     Ok((Accepted::from(network)?, submitted))
 }
 
-fn mark_accepted(accepted: &Accepted, submitted: Submitted) -> Mark {
+/// The mark of a plan; `cheapest` is the least cost of a valid one, once that is known.
+pub fn mark_accepted(accepted: &Accepted, submitted: &Submitted, cheapest: &mut Option<u64>) -> Mark {
     if submitted.is_empty() {
         return mark_empty(accepted);
     }
@@ -40,7 +41,7 @@ fn mark_accepted(accepted: &Accepted, submitted: Submitted) -> Mark {
         }
     }
     match trial.dark() {
-        0 => Mark::Valid { cost: trial.cost, excess: trial.cost - trial.cheapest() },
+        0 => Mark::Valid { cost: trial.cost, excess: trial.cost - *cheapest.get_or_insert_with(|| trial.cheapest()) },
         dark => short(dark),
     }
 }

@@ -1,9 +1,10 @@
-//! The planner and the judge, written from document 01 and items 1 and 2 of document 02, and unverified
+//! The planner, the judge and finals, written from document 01 and items 1, 2 and 4 of document 02, and unverified
 //! (docs/DECISIONS.md, 65): sets as bit masks, and a search that grows the tree of closed switches from the sources and
 //! carries loads, supply and cost along.
 mod accepted;
 mod bits;
 mod feeding;
+pub mod finals;
 mod guards;
 mod judge;
 mod neighbours;

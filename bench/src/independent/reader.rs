@@ -46,6 +46,11 @@ impl<'a> Reader<'a> {
         Reader { rest: bytes, at: 0 }
     }
 
+    /// Of bytes whose first has that offset.
+    pub fn counting_on(bytes: &'a [u8], at: usize) -> Self {
+        Reader { rest: bytes, at }
+    }
+
     /// The next record, which must be of that kind. A kind's length follows from its count of words.
     #[inline(always)]
     pub fn record<const WORDS: usize>(&mut self, kind: u16) -> Result<Record<WORDS>, Refusal> {

@@ -3,7 +3,7 @@ use super::network::Network;
 use super::reader::{word, Reader, Record, Refusal, PLAN_HEAD, STEP};
 
 pub struct Submitted<'a> {
-    steps: &'a [u8],
+    pub steps: &'a [u8],
 }
 
 impl<'a> Submitted<'a> {
