@@ -1,0 +1,4 @@
+pub mod Forming
+pub mod Deciding
+pub mod Ways
+pub mod Returning
