@@ -2,12 +2,12 @@
 -- Assumes nothing.
 use mathlib.Core.Path.{_≡_, refl, sym, ap, _∙_}
 use mathlib.Core.Bool.{Bool, true, false}
-use mathlib.Core.List.{List}
+use mathlib.Core.List.{List, []}
 use Prim.Native.Nat.{ℕ, _+_, _-_, _≤_, _<_}
 use native.Mathlib.Omega.{arith}
 use lib.Dec.{ltb}
-use lib.ListN.{length, take, drop, length-drop}
-use lib.Seq.{length-take-le, take-take, take-add, drop-at, drop-drop}
+use lib.ListN.{length, take, drop, length-drop, drop-of-length-le}
+use lib.Seq.{take-all, length-take-le, take-take, take-add, drop-at, drop-drop}
 use borrow.Author.Tests.{lt-ltb, le-ltb, ltb-true, ltb-false}
 use Rattle.network.specs.Refusals.{pick}
 use Rattle.final_better.specs.declared.Better.{Better}
@@ -56,6 +56,17 @@ module _ (start middle : ℕ) (p : Part) (offset : ℕ) where
   pub moved-none : p .better ≡ Neither → offset ≡ start + p .offset → record { better = p .better; offset = offset; length = p .length } ≡ partIn start middle p
   unfolding startOf
   moved-none e = moved start (ap (startOf start middle) e)
+
+-- ---- the bytes at a part, by the three ways through `part_bytes`
+
+module _ (s : List ℕ) (p : Part) where
+  pub no-bytes : length s < p .offset → [] ≡ take (p .length) (drop (p .offset) s)
+  no-bytes h = rw (drop-of-length-le s {i = p .offset} (omega arith)) (sym (take-all (p .length) [] (omega arith)))
+
+  pub bytes-to-the-end : length s - p .offset < p .length → take (length s - p .offset) (drop (p .offset) s) ≡ take (p .length) (drop (p .offset) s)
+  bytes-to-the-end h =
+      let long = length-drop (p .offset) s in
+      take-all (length s - p .offset) (drop (p .offset) s) (omega arith) ∙ sym (take-all (p .length) (drop (p .offset) s) (omega arith))
 
 -- ---- in its file
 

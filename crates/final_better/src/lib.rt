@@ -3,6 +3,7 @@ use judge_marks::Mark;
 ghost use mathlib.Core.Path.{_≡_};
 ghost use mathlib.Core.List.{[]};
 ghost use Prim.Native.Nat.{_+_, _-_, _^_, _<_};
+ghost use lib.ListN.{take, drop};
 ghost use Rattle.final_better.specs.Better.{betterOf, secondOrNeither, stepRecords, betterPart, firstStep, partOf, partIn};
 
 // Which of two files is the better one.
@@ -84,6 +85,22 @@ pub fn better_part<'a>(first: &'a [u8], second: &'a [u8], better: Better) -> &'a
         Better::Second => return step_records(second),
         Better::Neither => return no_records(first),
     }
+}
+
+// The bytes of a part of an input or file, as many of them as that has.
+pub fn part_bytes(s: &[u8], part: Part) -> &[u8]
+    ensures { λ r. ⌜ now r ≡ take (part .length) (drop (part .offset) (now (s .entry))) ⌝ }
+{
+    let n = s.len();
+    let offset = part.offset;
+    let length = part.length;
+    if n < offset {
+        return &s[0..0];
+    }
+    if n - offset < length {
+        return &s[offset..n];
+    }
+    &s[offset..offset + length]
 }
 
 // Where the first step of a plan file of so many bytes stands.

@@ -28,6 +28,11 @@ part-better a b First = refl
 part-better a b Second = refl
 part-better a b Neither = refl
 
+-- where all rules are kept, both marks and the part of the better file
+pub decided-marked : (r : FinalRead) → r .answer ≡ Accepted → answerTo (r .net) ≡ Accepted → decidedRead r ≡ markedFinal r (bothMarks r)
+unfolding decidedRead finalAnswered finalAccepted
+decided-marked r read kept = ap (finalAnswered r) read ∙ ap (finalAccepted r) kept
+
 module _ (States : Network → Plan → Plan → Type 0) (Broken : Refusal → Type 0) (r : FinalRead) (formed : ReadFormed r)
     (whole : r .answer ≡ Accepted → States (r .net) (r .first) (r .second)) (broken : (f : Refusal) → r .answer ≡ Refused f → Broken f) where
   -- rules 14 to 18

@@ -2,14 +2,21 @@
 -- Assumes nothing.
 use mathlib.Core.Path.{_≡_, refl, sym, ap, subst, _∙_}
 use mathlib.Core.List.{List}
+use mathlib.Core.Logic.{_↔_}
 use Prim.Native.Nat.{ℕ, _-_, _<_}
 use native.Mathlib.Omega.{arith}
+use lib.ListN.{length, take}
+use Rattle.network.specs.declared.Network.{Network}
+use Rattle.network.specs.declared.refusal.Refusal.{Refusal}
 use Rattle.network.specs.declared.refusal.Answer.{Answer}
 use Rattle.network.specs.declared.refusal.Answer.the-variants.{Accepted, Refused}
 use Rattle.file_network.specs.Runs.{Reading, refused, reached}
+use Rattle.file_plan.specs.declared.plan.Plan.{Plan}
+use Rattle.texts.specs.Texts.{inFront, Counted}
+use Rattle.texts.proofs.Pieces.{text-in-front}
 use Rattle.file_final.specs.declared.FinalRead.{FinalRead}
 use Rattle.file_final.specs.Inputs.{TwoPlans, noPlans, finalInput, filesInput, finalRead}
-use Rattle.file_final.specs.Finals.{FilesOf}
+use Rattle.file_final.specs.Finals.{FirstBrokenFinal, FirstBrokenFiles, FilesOf}
 use Rattle.file_final.proofs.Sizes.{final-files, apart-files, final-size}
 use Rattle.file_final.proofs.Stated.{final-unread, final-read, files-unread, files-read}
 use Rattle.feeding_acceptance.specs.Reading.{Bytes}
@@ -18,9 +25,9 @@ use Rattle.final_better.specs.declared.Better.the-variants.{Neither}
 use Rattle.final_better.specs.Better.{betterOf, partIn}
 use Rattle.final_better.proofs.Places.{part-offset}
 use Rattle.final_judge.specs.declared.Decided.{Decided}
-use Rattle.final_judge.specs.Finals.{StatesFinal, FinalDecided, FilesDecided, refusedFinal, markedFinal, bothMarks, finalAccepted, finalAnswered, decidedRead, inInput, finalFor, filesFor}
+use Rattle.final_judge.specs.Finals.{StatesFinal, FirstRuleFinal, DecidedBy, FinalDecided, FilesDecided, PrintedBy, decidedLines, refusedFinal, markedFinal, bothMarks, finalAccepted, finalAnswered, decidedRead, inInput, finalFor, filesFor}
 use Rattle.final_judge.proofs.Forming.{unread, formed-final, formed-files}
-use Rattle.final_judge.proofs.Deciding.{decided-by}
+use Rattle.final_judge.proofs.Deciding.{decided-by, refused-exactly}
 
 -- the offset of a part in its own file is at most 6
 accepted-offset : (r : FinalRead) (a : Answer) → finalAccepted r a .part .offset < 7
@@ -66,27 +73,70 @@ files-whole network first second = go (filesInput network first second) refl
         files-read network first second (v .net) (v .first) (v .second) .0
         (ap finalRead e ∙ (λ i. record { answer = Accepted; net = v .net; first = v .first; second = v .second; start = f .start-is i; middle = f .middle-is i; end = f .end-is i }))
 
-pub final-returned : (s : List ℕ) → Bytes s → (r : FinalRead) → r ≡ finalRead (finalInput s) → (own : Decided) → own ≡ decidedRead r → (d : Decided) → d ≡ inInput r own
-    → (d ≡ finalFor s) × FinalDecided s (d .answer) (d .marks) (d .part .better)
+-- what computes is what the paper asks for
+pub final-is : (s : List ℕ) → Bytes s → FinalDecided s (finalFor s)
 unfolding finalFor inInput partIn
-final-returned s bytes r r-is own own-is d d-is = (whole, subst (λ (x : Decided). FinalDecided s (x .answer) (x .marks) (x .part .better)) (sym whole) decided)
+final-is s bytes = decided-by _ _ (finalRead (finalInput s)) (formed-final s bytes) (final-whole s) (λ f. final-unread s f .0)
+
+pub files-is : (network first second : List ℕ) → Bytes network → FilesDecided network first second (filesFor network first second)
+unfolding filesFor
+files-is network first second bytes =
+    decided-by _ _ (finalRead (filesInput network first second)) (formed-files network first second bytes) (files-whole network first second)
+    (λ f. files-unread network first second f .0)
+
+-- refused exactly by the first rule broken
+pub final-refused-exactly : (s : List ℕ) → Bytes s → (f : Refusal)
+    → (finalFor s .answer ≡ Refused f) ↔ FirstRuleFinal (StatesFinal s) (FirstBrokenFinal s) f
+unfolding finalFor inInput
+final-refused-exactly s bytes =
+    refused-exactly _ _ (finalRead (finalInput s)) (formed-final s bytes) (final-whole s) (λ f. final-unread s f .0)
+    (λ n p q x. let e = final-read s n p q (x .0) (x .1) .1 (x .2) in (ap (λ (r : FinalRead). r .answer) e, ap (λ (r : FinalRead). r .net) e))
+    (λ f. final-unread s f .1)
+
+pub files-refused-exactly : (network first second : List ℕ) → Bytes network → (f : Refusal)
+    → (filesFor network first second .answer ≡ Refused f) ↔ FirstRuleFinal (FilesOf network first second) (FirstBrokenFiles network first second) f
+unfolding filesFor
+files-refused-exactly network first second bytes =
+    refused-exactly _ _ (finalRead (filesInput network first second)) (formed-files network first second bytes) (files-whole network first second)
+    (λ f. files-unread network first second f .0)
+    (λ n p q x. let e = files-read network first second n p q .1 x in (ap (λ (r : FinalRead). r .answer) e, ap (λ (r : FinalRead). r .net) e))
+    (λ f. files-unread network first second f .1)
+
+-- what the entry points return
+pub final-returned : (s : List ℕ) → Bytes s → (r : FinalRead) → r ≡ finalRead (finalInput s) → (own : Decided) → own ≡ decidedRead r → (d : Decided) → d ≡ inInput r own
+    → (d ≡ finalFor s) × FinalDecided s d
+unfolding finalFor
+final-returned s bytes r r-is own own-is d d-is = (whole, subst (FinalDecided s) (sym whole) (final-is s bytes))
   where
-    whole : d ≡ inInput (finalRead (finalInput s)) (decidedRead (finalRead (finalInput s)))
+    whole : d ≡ finalFor s
     whole = d-is ∙ ap (inInput r) own-is ∙ ap (λ (x : FinalRead). inInput x (decidedRead x)) r-is
 
-    decided : FinalDecided s (inInput (finalRead (finalInput s)) (decidedRead (finalRead (finalInput s))) .answer)
-        (inInput (finalRead (finalInput s)) (decidedRead (finalRead (finalInput s))) .marks)
-        (inInput (finalRead (finalInput s)) (decidedRead (finalRead (finalInput s))) .part .better)
-    decided = decided-by _ _ (finalRead (finalInput s)) (formed-final s bytes) (final-whole s) (λ f. final-unread s f .0)
-
 pub files-returned : (network first second : List ℕ) → Bytes network → (r : FinalRead) → r ≡ finalRead (filesInput network first second) → (d : Decided) → d ≡ decidedRead r
-    → (d ≡ filesFor network first second) × FilesDecided network first second (d .answer) (d .marks) (d .part .better)
+    → (d ≡ filesFor network first second) × FilesDecided network first second d
 unfolding filesFor
-files-returned network first second bytes r r-is d d-is = (
-  whole,
-  subst (λ (x : Decided). FilesDecided network first second (x .answer) (x .marks) (x .part .better)) (sym whole)
-      (decided-by _ _ (finalRead (filesInput network first second)) (formed-files network first second bytes) (files-whole network first second) (λ f. files-unread network first second f .0)),
-)
+files-returned network first second bytes r r-is d d-is = (whole, subst (FilesDecided network first second) (sym whole) (files-is network first second bytes))
   where
-    whole : d ≡ decidedRead (finalRead (filesInput network first second))
+    whole : d ≡ filesFor network first second
     whole = d-is ∙ ap decidedRead r-is
+
+-- the lines of what is decided are what the paper asks for
+pub printed-decided : (States : Network → Plan → Plan → Type 0) (Broken : Refusal → Type 0) (d e : Decided)
+    → (d ≡ e) × DecidedBy States Broken (d .answer) (d .marks) (d .part .better) → (before after : List ℕ) (n : ℕ)
+    → (n ≡ length (decidedLines d)) × ((after ≡ inFront (decidedLines d) before) × Counted n after)
+    → (n ≡ length (decidedLines e)) × ((after ≡ inFront (decidedLines e) before) × (Counted n after × PrintedBy States Broken (take n after)))
+printed-decided States Broken d e is before after n put = (
+  put .0 ∙ ap (λ (x : Decided). length (decidedLines x)) (is .0),
+  (
+    put .1 .0 ∙ ap (λ (x : Decided). inFront (decidedLines x) before) (is .0),
+    (
+      put .1 .1,
+      record {
+        answer = d .answer;
+        marks = d .marks;
+        better = d .part .better;
+        decided = is .1;
+        lines = text-in-front (decidedLines d) before after n (put .0) (put .1 .0);
+      },
+    ),
+  ),
+)

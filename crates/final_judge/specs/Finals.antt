@@ -1,6 +1,5 @@
--- Document 02, item 4, "Two controllers head to head": what a trial final is decided, of one input and of files lent apart. `States n p q` says what the files state,
--- `Broken f` the first of rules 1 to 13 and 20 that they break.
--- Internal: no promise to a user is said by it.
+-- Document 02, item 4, "Two controllers head to head": what a trial final is decided, of one input and of files lent apart. `States n p q` says what
+-- the files state, `Broken f` the first of rules 1 to 13 and 20 that they break.
 -- Assumes nothing.
 use mathlib.Core.Path.{_≡_}
 use mathlib.Core.List.{List}
@@ -25,6 +24,7 @@ use Rattle.judge_marks.specs.Marks.{Marked, markOf}
 use Rattle.final_better.specs.declared.Better.{Better}
 use Rattle.final_better.specs.declared.Better.the-variants.{Neither}
 use Rattle.final_better.specs.Better.{BetterBy, betterOf, partOf, partIn}
+use Rattle.final_lines.specs.FinalLines.{finalLines}
 use Rattle.final_judge.specs.declared.Decided.{Decided}
 
 -- ---- what the paper asks for
@@ -50,12 +50,27 @@ pub data DecidedBy (States : Network → Plan → Plan → Type 0) (Broken : Ref
 abbrev pub StatesFinal : List ℕ → Network → Plan → Plan → Type 0
 StatesFinal s n p q = (start : ℕ) × (middle : ℕ) × FinalOf s n p q start middle
 
-abbrev pub FinalDecided : List ℕ → Answer → BothMarks → Better → Type 0
-FinalDecided s = DecidedBy (StatesFinal s) (FirstBrokenFinal s)
+abbrev pub FinalDecided : List ℕ → Decided → Type 0
+FinalDecided s d = DecidedBy (StatesFinal s) (FirstBrokenFinal s) (d .answer) (d .marks) (d .part .better)
 
 -- files lent apart
-abbrev pub FilesDecided : (network first second : List ℕ) → Answer → BothMarks → Better → Type 0
-FilesDecided network first second = DecidedBy (FilesOf network first second) (FirstBrokenFiles network first second)
+abbrev pub FilesDecided : (network first second : List ℕ) → Decided → Type 0
+FilesDecided network first second d =
+    DecidedBy (FilesOf network first second) (FirstBrokenFiles network first second) (d .answer) (d .marks) (d .part .better)
+
+-- what is printed of it
+pub record PrintedBy (States : Network → Plan → Plan → Type 0) (Broken : Refusal → Type 0) (text : List ℕ) : Type 0 where
+  pub answer : Answer
+  pub marks : BothMarks
+  pub better : Better
+  pub decided : DecidedBy States Broken answer marks better
+  pub lines : text ≡ finalLines answer marks
+
+abbrev pub FinalReply : List ℕ → List ℕ → Type 0
+FinalReply s = PrintedBy (StatesFinal s) (FirstBrokenFinal s)
+
+abbrev pub FilesReply : (network first second : List ℕ) → List ℕ → Type 0
+FilesReply network first second = PrintedBy (FilesOf network first second) (FirstBrokenFiles network first second)
 
 -- ---- what computes
 
@@ -91,6 +106,9 @@ finalFor s = inInput (finalRead (finalInput s)) (decidedRead (finalRead (finalIn
 
 unfoldable pub filesFor : (network first second : List ℕ) → Decided
 filesFor network first second = decidedRead (finalRead (filesInput network first second))
+
+abbrev pub decidedLines : Decided → List ℕ
+decidedLines d = finalLines (d .answer) (d .marks)
 
 -- what was read whole is well formed, and the files stand behind one another
 pub record ReadFormed (r : FinalRead) : Type 0 where

@@ -17,12 +17,11 @@ use judge_score::both_marked;
 use network::refusal::Answer;
 use network::refusal::Refusal;
 ghost use mathlib.Core.Path.{_≡_};
-ghost use lib.ListN.{length};
+ghost use lib.ListN.{length, take};
 ghost use Rattle.file_plan.specs.Accepted.{WellFormedPlan};
 ghost use Rattle.feeding_start.specs.Starting.{Begun};
 ghost use Rattle.texts.specs.Texts.{inFront, Counted};
-ghost use Rattle.final_lines.specs.FinalLines.{finalLines};
-ghost use Rattle.final_judge.specs.Finals.{FinalDecided, FilesDecided, ReadFormed, refusedFinal, markedFinal, bothMarks, decidedRead, finalFor, filesFor};
+ghost use Rattle.final_judge.specs.Finals.{FinalDecided, FilesDecided, FinalReply, FilesReply, ReadFormed, refusedFinal, markedFinal, decidedRead, finalFor, filesFor, decidedLines};
 
 // Accepted, with both marks in file order and the part of the better file; or a refusal.
 pub struct Decided {
@@ -89,7 +88,7 @@ fn decide(read: FinalRead) -> Decided
 // A network file with two plan files directly behind it; the part by its offset in the input.
 pub fn final_of(s: &[u8]) -> Decided
     ensures { λ r. ⌜ r ≡ finalFor (now (s .entry)) ⌝ }
-    ensures { λ r. ⌜ FinalDecided (now (s .entry)) (r .answer) (r .marks) (r .part .better) ⌝ }
+    ensures { λ r. ⌜ FinalDecided (now (s .entry)) r ⌝ }
 {
     let read = read_final(s);
     let own = decide(read);
@@ -107,7 +106,7 @@ pub fn final_of(s: &[u8]) -> Decided
 // A network file and two plan files lent apart; the part by its offset in its own file.
 pub fn final_of_files(network: &[u8], first: &[u8], second: &[u8]) -> Decided
     ensures { λ r. ⌜ r ≡ filesFor (now (network .entry)) (now (first .entry)) (now (second .entry)) ⌝ }
-    ensures { λ r. ⌜ FilesDecided (now (network .entry)) (now (first .entry)) (now (second .entry)) (r .answer) (r .marks) (r .part .better) ⌝ }
+    ensures { λ r. ⌜ FilesDecided (now (network .entry)) (now (first .entry)) (now (second .entry)) r ⌝ }
 {
     let read = read_files(network, first, second);
     decide(read)
@@ -115,9 +114,10 @@ pub fn final_of_files(network: &[u8], first: &[u8], second: &[u8]) -> Decided
 
 // The lines in the front of `out`, and their length; later bytes keep their values.
 pub fn final_text(s: &[u8], out: &mut [u8; 4096]) -> usize
-    ensures { λ r. ⌜ r ≡ length (finalLines (finalFor (now (s .entry)) .answer) (finalFor (now (s .entry)) .marks)) ⌝ }
-    ensures { λ _. ⌜ now (out .exit) ≡ inFront (finalLines (finalFor (now (s .entry)) .answer) (finalFor (now (s .entry)) .marks)) (now (out .entry)) ⌝ }
+    ensures { λ r. ⌜ r ≡ length (decidedLines (finalFor (now (s .entry)))) ⌝ }
+    ensures { λ _. ⌜ now (out .exit) ≡ inFront (decidedLines (finalFor (now (s .entry)))) (now (out .entry)) ⌝ }
     ensures { λ r. ⌜ Counted r (now (out .exit)) ⌝ }
+    ensures { λ r. ⌜ FinalReply (now (s .entry)) (take r (now (out .exit))) ⌝ }
 {
     let decided = final_of(s);
     let answer = decided.answer;
@@ -127,9 +127,10 @@ pub fn final_text(s: &[u8], out: &mut [u8; 4096]) -> usize
 
 // The same of files lent apart.
 pub fn files_text(network: &[u8], first: &[u8], second: &[u8], out: &mut [u8; 4096]) -> usize
-    ensures { λ r. ⌜ r ≡ length (finalLines (filesFor (now (network .entry)) (now (first .entry)) (now (second .entry)) .answer) (filesFor (now (network .entry)) (now (first .entry)) (now (second .entry)) .marks)) ⌝ }
-    ensures { λ _. ⌜ now (out .exit) ≡ inFront (finalLines (filesFor (now (network .entry)) (now (first .entry)) (now (second .entry)) .answer) (filesFor (now (network .entry)) (now (first .entry)) (now (second .entry)) .marks)) (now (out .entry)) ⌝ }
+    ensures { λ r. ⌜ r ≡ length (decidedLines (filesFor (now (network .entry)) (now (first .entry)) (now (second .entry)))) ⌝ }
+    ensures { λ _. ⌜ now (out .exit) ≡ inFront (decidedLines (filesFor (now (network .entry)) (now (first .entry)) (now (second .entry)))) (now (out .entry)) ⌝ }
     ensures { λ r. ⌜ Counted r (now (out .exit)) ⌝ }
+    ensures { λ r. ⌜ FilesReply (now (network .entry)) (now (first .entry)) (now (second .entry)) (take r (now (out .exit))) ⌝ }
 {
     let decided = final_of_files(network, first, second);
     let answer = decided.answer;

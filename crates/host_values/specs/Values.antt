@@ -3,6 +3,8 @@
 use mathlib.Core.List.{List, [], _∷_, _++_}
 use Prim.Native.Nat.{ℕ}
 use lib.ListN.{length, take, drop}
+use Rattle.network.specs.declared.refusal.Answer.{Answer}
+use Rattle.network.specs.declared.refusal.Answer.the-variants as Answer·
 use Rattle.network.specs.Refusals.{ruleNumber}
 use Rattle.plan_outcome.specs.declared.Reply.{Reply}
 use Rattle.plan_outcome.specs.declared.Reply.the-variants as Reply·
@@ -13,6 +15,7 @@ use Rattle.judge_marks.specs.Marks.{reasonNumber}
 use Rattle.final_better.specs.declared.Better.{Better}
 use Rattle.final_better.specs.declared.Better.the-variants.{First, Second, Neither}
 use Rattle.final_better.specs.declared.Part.{Part}
+use Rattle.final_judge.specs.declared.Decided.{Decided}
 
 -- refused, plan, none
 unfoldable pub replyKind : Reply → ℕ
@@ -47,9 +50,22 @@ betterNumber Second = 1
 betterNumber Neither = 2
 
 -- both marks in file order, each as its kind and its two numbers; the better file, and offset and length of its step records
-unfoldable pub finalValues : BothMarks → Part → List ℕ
-finalValues m p =
+unfoldable pub markedValues : BothMarks → Part → List ℕ
+markedValues m p =
     (markKind (m .first) ∷ markValues (m .first)) ++ (markKind (m .second) ∷ markValues (m .second)) ++ (betterNumber (p .better) ∷ p .offset ∷ p .length ∷ [])
+
+-- a final: refused, or marked
+unfoldable pub finalKind : Answer → ℕ
+finalKind (Answer·.Refused f) = 0
+finalKind Answer·.Accepted = 1
+
+unfoldable pub answerValues : Decided → Answer → List ℕ
+answerValues d (Answer·.Refused f) = ruleNumber (f .rule) ∷ f .place ∷ 0 ∷ 0 ∷ 0 ∷ 0 ∷ 0 ∷ 0 ∷ 0 ∷ []
+answerValues d Answer·.Accepted = markedValues (d .marks) (d .part)
+
+-- refused: number and place; else the marks and the part
+unfoldable pub finalValues : Decided → List ℕ
+finalValues d = answerValues d (d .answer)
 
 -- values in front of what a host lends, as many as there is room for; later entries keep their values
 unfoldable pub valuesIn : List ℕ → List ℕ → List ℕ

@@ -1,14 +1,16 @@
 // The planner's reply, the judge's mark and the marks of a final as numbers, for programs in other languages.
 use final_better::Better;
 use final_better::Part;
+use final_judge::Decided;
 use judge_line::reason_number;
 use judge_marks::BothMarks;
 use judge_marks::Mark;
+use network::refusal::Answer;
 use network::refusal::number;
 use plan_outcome::Reply;
 ghost use mathlib.Core.Path.{_≡_};
 ghost use lib.ListN.{length};
-ghost use Rattle.host_values.specs.Values.{replyKind, replyValues, markKind, markValues, betterNumber, finalValues, valuesIn};
+ghost use Rattle.host_values.specs.Values.{replyKind, replyValues, markKind, markValues, betterNumber, markedValues, finalKind, finalValues, valuesIn};
 
 pub fn reply_kind(reply: Reply) -> u64
     ensures { λ r. ⌜ r ≡ replyKind reply ⌝ }
@@ -78,8 +80,8 @@ pub fn better_number(better: Better) -> u64
 }
 
 // Both marks with their kinds, the better file, and where its step records stand.
-pub fn final_values(marks: BothMarks, part: Part) -> [u64; 9]
-    ensures { λ r. ⌜ r ≡ finalValues marks part ⌝ }
+fn marked_values(marks: BothMarks, part: Part) -> [u64; 9]
+    ensures { λ r. ⌜ r ≡ markedValues marks part ⌝ }
 {
     let first = marks.first;
     let second = marks.second;
@@ -97,6 +99,39 @@ pub fn final_values(marks: BothMarks, part: Part) -> [u64; 9]
         part.offset as u64,
         part.length as u64,
     ]
+}
+
+pub fn final_kind(decided: Decided) -> u64
+    ensures { λ r. ⌜ r ≡ finalKind (decided .answer) ⌝ }
+{
+    let answer = decided.answer;
+    match answer {
+        Answer::Refused(_) => 0,
+        Answer::Accepted => 1,
+    }
+}
+
+pub fn final_values(decided: Decided) -> [u64; 9]
+    ensures { λ r. ⌜ r ≡ finalValues decided ⌝ }
+{
+    let answer = decided.answer;
+    match answer {
+        Answer::Refused(refusal) => {
+            let rule = refusal.rule;
+            [
+                number(rule) as u64,
+                refusal.place as u64,
+                0,
+                0,
+                0,
+                0,
+                0,
+                0,
+                0,
+            ]
+        }
+        Answer::Accepted => marked_values(decided.marks, decided.part),
+    }
 }
 
 // As many of the values as there is room for into the front of `lent`; how many there are in any case.

@@ -1,5 +1,11 @@
-// What other programs link: planner and judge on byte slices and numbers.
+// What other programs link: planner, judge and the judge of finals, on byte slices and numbers.
+use final_judge::files_text;
+use final_judge::final_of;
+use final_judge::final_of_files;
+use final_judge::final_text;
 use host_texts::put_if_it_fits;
+use host_values::final_kind;
+use host_values::final_values;
 use host_values::mark_kind;
 use host_values::mark_values;
 use host_values::put_what_fits;
@@ -15,7 +21,8 @@ ghost use Rattle.plan_outcome.specs.Outcomes.{outcome};
 ghost use Rattle.planner.specs.Replies.{PlannerReply, LibraryReply, replyFor, bufferFor, linesOf};
 ghost use Rattle.judge.specs.Judging.{JudgeReply, markFor};
 ghost use Rattle.judge_line.specs.MarkLines.{markLine};
-ghost use Rattle.host_values.specs.Values.{replyKind, replyValues, markKind, markValues, valuesIn};
+ghost use Rattle.final_judge.specs.Finals.{FinalDecided, FilesDecided, FinalReply, FilesReply, finalFor, filesFor, decidedLines};
+ghost use Rattle.host_values.specs.Values.{replyKind, replyValues, markKind, markValues, finalKind, finalValues, valuesIn};
 ghost use Rattle.host_texts.specs.Fitting.{textIn};
 
 // The planner: the kind of its reply, in the front of `values` as many of the reply's values as fit, and in `count` how many
@@ -74,5 +81,68 @@ pub extern "C" fn tamchuwe_mark_text(input: &[u8], out: &mut [u8]) -> usize
 {
     let mut text: [u8; 4096] = [0; 4096];
     let length = mark_text(input, &mut text);
+    put_if_it_fits(&text[..length], out)
+}
+
+// A trial final in one input: whether it is marked, with its values and their count as above; the part by its offset in the input.
+#[no_mangle]
+pub extern "C" fn tamchuwe_final(input: &[u8], values: &mut [u64], count: &mut usize) -> u64
+    ensures { λ r. ⌜ r ≡ finalKind (finalFor (now (input .entry)) .answer) ⌝ }
+    ensures { λ _. ⌜ now (values .exit) ≡ valuesIn (finalValues (finalFor (now (input .entry)))) (now (values .entry)) ⌝ }
+    ensures { λ _. ⌜ now (count .exit) ≡ length (finalValues (finalFor (now (input .entry)))) ⌝ }
+    ensures { λ _. ⌜ FinalDecided (now (input .entry)) (finalFor (now (input .entry))) ⌝ }
+{
+    let decided = final_of(input);
+    let found = final_values(decided);
+    *count = put_what_fits(&found, values);
+    final_kind(decided)
+}
+
+// Its lines in the front of `out`, where they fit, and their length.
+#[no_mangle]
+pub extern "C" fn tamchuwe_final_text(input: &[u8], out: &mut [u8]) -> usize
+    ensures { λ r. ⌜ r ≡ length (decidedLines (finalFor (now (input .entry)))) ⌝ }
+    ensures { λ _. ⌜ now (out .exit) ≡ textIn (decidedLines (finalFor (now (input .entry)))) (now (out .entry)) ⌝ }
+    ensures { λ _. ⌜ FinalReply (now (input .entry)) (decidedLines (finalFor (now (input .entry)))) ⌝ }
+{
+    let mut text: [u8; 4096] = [0; 4096];
+    let length = final_text(input, &mut text);
+    put_if_it_fits(&text[..length], out)
+}
+
+// A trial final of files lent apart: the same, and the part by its offset in its own file.
+#[no_mangle]
+pub extern "C" fn tamchuwe_final_apart(
+    network: &[u8],
+    first: &[u8],
+    second: &[u8],
+    values: &mut [u64],
+    count: &mut usize,
+) -> u64
+    ensures { λ r. ⌜ r ≡ finalKind (filesFor (now (network .entry)) (now (first .entry)) (now (second .entry)) .answer) ⌝ }
+    ensures { λ _. ⌜ now (values .exit) ≡ valuesIn (finalValues (filesFor (now (network .entry)) (now (first .entry)) (now (second .entry)))) (now (values .entry)) ⌝ }
+    ensures { λ _. ⌜ now (count .exit) ≡ length (finalValues (filesFor (now (network .entry)) (now (first .entry)) (now (second .entry)))) ⌝ }
+    ensures { λ _. ⌜ FilesDecided (now (network .entry)) (now (first .entry)) (now (second .entry)) (filesFor (now (network .entry)) (now (first .entry)) (now (second .entry))) ⌝ }
+{
+    let decided = final_of_files(network, first, second);
+    let found = final_values(decided);
+    *count = put_what_fits(&found, values);
+    final_kind(decided)
+}
+
+// Its lines in the front of `out`, where they fit, and their length.
+#[no_mangle]
+pub extern "C" fn tamchuwe_final_apart_text(
+    network: &[u8],
+    first: &[u8],
+    second: &[u8],
+    out: &mut [u8],
+) -> usize
+    ensures { λ r. ⌜ r ≡ length (decidedLines (filesFor (now (network .entry)) (now (first .entry)) (now (second .entry)))) ⌝ }
+    ensures { λ _. ⌜ now (out .exit) ≡ textIn (decidedLines (filesFor (now (network .entry)) (now (first .entry)) (now (second .entry)))) (now (out .entry)) ⌝ }
+    ensures { λ _. ⌜ FilesReply (now (network .entry)) (now (first .entry)) (now (second .entry)) (decidedLines (filesFor (now (network .entry)) (now (first .entry)) (now (second .entry)))) ⌝ }
+{
+    let mut text: [u8; 4096] = [0; 4096];
+    let length = files_text(network, first, second, &mut text);
     put_if_it_fits(&text[..length], out)
 }

@@ -134,19 +134,29 @@ mark-letter (Mark·.Short e) t = let z : _≡_ {A = ℕ} 86 83 = letters validWo
 mark-letter (Mark·.Valid v) t = (v, refl)
 mark-letter (Mark·.Refused f) t = let z : _≡_ {A = ℕ} 86 82 = letters validWord refusedWord (markLine (Mark·.Refused f)) t (line-begins refusedWord (ruleNumber (f .rule)) (f .place)) in absurd (omega arith)
 
-refused-letter : (m : Mark) → Begins refusedWord (markLine m) → (f : Refusal) × (m ≡ Mark·.Refused f)
+-- whatever stands behind the line
+begins-on : {w t : List ℕ} → Begins w t → (rest : List ℕ) → Begins w (t ++ rest)
+begins-on {w = w} b rest = (b .0 ++ rest, ap (λ (l : List ℕ). l ++ rest) (b .1) ∙ append-assoc w (b .0) rest)
+
+pub refused-letter : (m : Mark) (rest : List ℕ) → Begins refusedWord (markLine m ++ rest) → (f : Refusal) × (m ≡ Mark·.Refused f)
 unfolding markLine
-refused-letter (Mark·.Broken b) t = let z : _≡_ {A = ℕ} 82 66 = letters refusedWord brokenWord (markLine (Mark·.Broken b)) t (line-begins brokenWord (b .step) (reasonNumber (b .reason))) in absurd (omega arith)
-refused-letter (Mark·.Short e) t = let z : _≡_ {A = ℕ} 82 83 = letters refusedWord shortWord (markLine (Mark·.Short e)) t (field e ++ feed, append-assoc shortWord (field e) feed) in absurd (omega arith)
-refused-letter (Mark·.Valid v) t = let z : _≡_ {A = ℕ} 82 86 = letters refusedWord validWord (markLine (Mark·.Valid v)) t (line-begins validWord (v .cost) (v .excess)) in absurd (omega arith)
-refused-letter (Mark·.Refused f) t = (f, refl)
+refused-letter (Mark·.Broken b) rest t =
+    let z : _≡_ {A = ℕ} 82 66 = letters refusedWord brokenWord _ t (begins-on (line-begins brokenWord (b .step) (reasonNumber (b .reason))) rest) in
+    absurd (omega arith)
+refused-letter (Mark·.Short e) rest t =
+    let z : _≡_ {A = ℕ} 82 83 = letters refusedWord shortWord _ t (begins-on (field e ++ feed, append-assoc shortWord (field e) feed) rest) in
+    absurd (omega arith)
+refused-letter (Mark·.Valid v) rest t =
+    let z : _≡_ {A = ℕ} 82 86 = letters refusedWord validWord _ t (begins-on (line-begins validWord (v .cost) (v .excess)) rest) in
+    absurd (omega arith)
+refused-letter (Mark·.Refused f) rest t = (f, refl)
 
 module _ (s : List ℕ) where
   pub valid-by-word : Begins validWord (markText s) → (v : Score) × (markFor s ≡ Mark·.Valid v)
   valid-by-word b = mark-letter (markFor s) b
 
   pub refused-mark-by-word : Begins refusedWord (markText s) → (f : Refusal) × (markFor s ≡ Mark·.Refused f)
-  refused-mark-by-word b = refused-letter (markFor s) b
+  refused-mark-by-word b = refused-letter (markFor s) [] (begins-on b [])
 
   pub valid-word : (v : Score) → markFor s ≡ Mark·.Valid v → markText s ≡ lineOf validWord (v .cost) (v .excess)
   unfolding markLine

@@ -23,14 +23,21 @@ use Rattle.plan_outcome.specs.Outcomes.{outcomeBy, outcome}
 use Rattle.planner.specs.Replies.{linesOf}
 use Rattle.judge_line.specs.MarkLines.{markLine}
 use Rattle.judge.specs.Judging.{markForBy, markFor}
+use Rattle.final_judge.specs.Finals.{finalFor, filesFor, decidedLines}
 
--- ---- what is printed, by the contracts of `plan_text` and `mark_text`
+-- ---- what is printed, by the contracts of `plan_text`, `mark_text`, `final_text` and `files_text`
 
 abbrev pub planText : List ℕ → List ℕ
 planText s = linesOf (outcome s)
 
 abbrev pub markText : List ℕ → List ℕ
 markText s = markLine (markFor s)
+
+abbrev pub finalText : List ℕ → List ℕ
+finalText s = decidedLines (finalFor s)
+
+abbrev pub filesText : (network first second : List ℕ) → List ℕ
+filesText network first second = decidedLines (filesFor network first second)
 
 -- the same where only some kinds of records are known
 abbrev pub planTextBy : (ℕ → Bool) → List ℕ → List ℕ

@@ -1,10 +1,10 @@
--- `final_values` gives the numbers of both marks and of the part: one by one.
+-- `marked_values` gives the numbers of both marks and of the part: one by one.
 -- Assumes nothing.
 use native.Mathlib.Omega.{arith}
-use Rattle.host_values.proofs.Counts.{final-nine}
+use Rattle.host_values.proofs.Counts.{marked-nine}
 use borrow.Author.Needs.{needs}
-use Rattle.host_values.proofs.final_values.Statement.{statement}
-use Rattle.host_values.proofs.final_values.Tie as tie
+use Rattle.host_values.proofs.marked_values.Statement.{statement}
+use Rattle.host_values.proofs.marked_values.Tie as tie
 
 mark-values-requires : tie.Need-mark-values-requires
 mark-values-requires c κs =
@@ -47,10 +47,10 @@ returns c =
     let args· = c .before .before .before .before .before .args in
     let mark-values· = c .before .before .before .before .mark-values in
     let mark-values2· = c .before .before .before .mark-values2 in
-    final-nine (args· .marks) (args· .part) (mark-values· .result) (mark-values2· .result) _ _ _ _ _ (c .before .before .mark-kind .ensures) (mark-values· .ensures) (c .before .mark-kind2 .ensures) (mark-values2· .ensures) (c .better-number .ensures) (omega arith) (omega arith)
+    marked-nine (args· .marks) (args· .part) (mark-values· .result) (mark-values2· .result) _ _ _ _ _ (c .before .before .mark-kind .ensures) (mark-values· .ensures) (c .before .mark-kind2 .ensures) (mark-values2· .ensures) (c .better-number .ensures) (omega arith) (omega arith)
 
-pub final-values-spec : {M : Type 1} → statement M
-final-values-spec =
+pub marked-values-spec : {M : Type 1} → statement M
+marked-values-spec =
     tie.close
     (tie.spec
     mark-values-requires
