@@ -22,7 +22,7 @@ use Rattle.final_better.specs.Better.{partOf}
 use Rattle.final_better.proofs.Marks.{better-of}
 use Rattle.final_judge.specs.Finals.{FirstRuleFinal, in-files, in-network, DecidedBy, marked, refused, ReadFormed, refusedFinal, markedFinal, bothMarks, finalAccepted, finalAnswered, decidedRead}
 
-part-better : (a b : ℕ) (w : Better) → partOf a b w .better ≡ w
+pub part-better : (a b : ℕ) (w : Better) → partOf a b w .better ≡ w
 unfolding partOf
 part-better a b First = refl
 part-better a b Second = refl

@@ -8,9 +8,11 @@ pub mod Buffers
 pub mod Exactly
 pub mod AsEver
 pub mod Guarding
+pub mod Finals
 pub mod Demand1
 pub mod Demand2
 pub mod Demand3
 pub mod Request1
 pub mod Request2
 pub mod Request3
+pub mod Request4

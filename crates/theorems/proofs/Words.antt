@@ -135,19 +135,19 @@ mark-letter (Mark·.Valid v) t = (v, refl)
 mark-letter (Mark·.Refused f) t = let z : _≡_ {A = ℕ} 86 82 = letters validWord refusedWord (markLine (Mark·.Refused f)) t (line-begins refusedWord (ruleNumber (f .rule)) (f .place)) in absurd (omega arith)
 
 -- whatever stands behind the line
-begins-on : {w t : List ℕ} → Begins w t → (rest : List ℕ) → Begins w (t ++ rest)
-begins-on {w = w} b rest = (b .0 ++ rest, ap (λ (l : List ℕ). l ++ rest) (b .1) ∙ append-assoc w (b .0) rest)
+begins-on : (w t : List ℕ) → Begins w t → (rest : List ℕ) → Begins w (t ++ rest)
+begins-on w t b rest = (b .0 ++ rest, ap (λ (l : List ℕ). l ++ rest) (b .1) ∙ append-assoc w (b .0) rest)
 
 pub refused-letter : (m : Mark) (rest : List ℕ) → Begins refusedWord (markLine m ++ rest) → (f : Refusal) × (m ≡ Mark·.Refused f)
 unfolding markLine
 refused-letter (Mark·.Broken b) rest t =
-    let z : _≡_ {A = ℕ} 82 66 = letters refusedWord brokenWord _ t (begins-on (line-begins brokenWord (b .step) (reasonNumber (b .reason))) rest) in
+    let z : _≡_ {A = ℕ} 82 66 = letters refusedWord brokenWord _ t (begins-on brokenWord _ (line-begins brokenWord (b .step) (reasonNumber (b .reason))) rest) in
     absurd (omega arith)
 refused-letter (Mark·.Short e) rest t =
-    let z : _≡_ {A = ℕ} 82 83 = letters refusedWord shortWord _ t (begins-on (field e ++ feed, append-assoc shortWord (field e) feed) rest) in
+    let z : _≡_ {A = ℕ} 82 83 = letters refusedWord shortWord _ t (begins-on shortWord _ (field e ++ feed, append-assoc shortWord (field e) feed) rest) in
     absurd (omega arith)
 refused-letter (Mark·.Valid v) rest t =
-    let z : _≡_ {A = ℕ} 82 86 = letters refusedWord validWord _ t (begins-on (line-begins validWord (v .cost) (v .excess)) rest) in
+    let z : _≡_ {A = ℕ} 82 86 = letters refusedWord validWord _ t (begins-on validWord _ (line-begins validWord (v .cost) (v .excess)) rest) in
     absurd (omega arith)
 refused-letter (Mark·.Refused f) rest t = (f, refl)
 
@@ -156,7 +156,7 @@ module _ (s : List ℕ) where
   valid-by-word b = mark-letter (markFor s) b
 
   pub refused-mark-by-word : Begins refusedWord (markText s) → (f : Refusal) × (markFor s ≡ Mark·.Refused f)
-  refused-mark-by-word b = refused-letter (markFor s) [] (begins-on b [])
+  refused-mark-by-word b = refused-letter (markFor s) [] (begins-on refusedWord (markText s) b [])
 
   pub valid-word : (v : Score) → markFor s ≡ Mark·.Valid v → markText s ≡ lineOf validWord (v .cost) (v .excess)
   unfolding markLine
