@@ -1,5 +1,4 @@
 -- Document 02, item 4, in its own words: the first rule that the input of a trial final breaks, with its place, and what its files state; in one input, and lent apart.
--- Internal: no promise to a user is said by it.
 -- Assumes nothing.
 use mathlib.Core.List.{List}
 use Prim.Native.Nat.{ℕ, _+_, _<_}

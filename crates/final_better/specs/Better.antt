@@ -1,5 +1,4 @@
 -- Document 02, item 4: which of two plan files is the better one, and the step records of it that are handed back.
--- Internal: no promise to a user is said by it.
 -- Assumes nothing.
 use mathlib.Core.Path.{_≡_}
 use mathlib.Core.List.{List, []}

@@ -18,8 +18,6 @@ use network::refusal::Answer;
 use network::refusal::Refusal;
 ghost use mathlib.Core.Path.{_≡_};
 ghost use lib.ListN.{length, take};
-ghost use Rattle.file_plan.specs.Accepted.{WellFormedPlan};
-ghost use Rattle.feeding_start.specs.Starting.{Begun};
 ghost use Rattle.texts.specs.Texts.{inFront, Counted};
 ghost use Rattle.final_judge.specs.Finals.{FinalDecided, FilesDecided, FinalReply, FilesReply, ReadFormed, refusedFinal, markedFinal, decidedRead, finalFor, filesFor, decidedLines};
 

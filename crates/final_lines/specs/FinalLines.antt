@@ -1,5 +1,4 @@
 -- Document 02, item 4: the printed lines of a trial final, each as document 01 has it.
--- Internal: no promise to a user is said by it.
 -- Assumes nothing.
 use mathlib.Core.List.{List, _++_}
 use Prim.Native.Nat.{ℕ}

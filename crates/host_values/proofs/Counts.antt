@@ -2,7 +2,7 @@
 -- `TAMCHUWE_FINAL_VALUES` of the C header. Case by case.
 -- Assumes nothing.
 use mathlib.Core.Path.{_≡_, refl}
-use mathlib.Core.List.{List, [], _∷_, _++_}
+use mathlib.Core.List.{List, [], _∷_}
 use Prim.Native.Nat.{ℕ}
 use lib.ListN.{length, getD}
 use Rattle.network.specs.declared.refusal.Answer.{Answer}

@@ -4,7 +4,7 @@
 use mathlib.Core.Path.{_≡_, refl, sym, ap, ap₂, subst, _∙_}
 use mathlib.Core.List.{List, _++_}
 use mathlib.Core.Logic.{_↔_}
-use Prim.Native.Nat.{ℕ, _+_, _-_, _*_, _≤_}
+use Prim.Native.Nat.{ℕ, _+_, _-_, _≤_}
 use native.Mathlib.Omega.{arith}
 use lib.ListN.{length, take, drop}
 use Rattle.network.specs.declared.Network.{Network}
@@ -13,7 +13,6 @@ use Rattle.network.specs.declared.refusal.Answer.{Answer}
 use Rattle.network.specs.declared.refusal.Answer.the-variants.{Accepted, Refused}
 use Rattle.file_network.specs.Runs.{Reading, reached}
 use Rattle.file_plan.specs.declared.plan.Plan.{Plan}
-use Rattle.file_plan.specs.Inputs.{planInput}
 use Rattle.file_both.specs.Inputs.{bothRead}
 use Rattle.file_final.specs.declared.FinalRead.{FinalRead}
 use Rattle.file_final.specs.Inputs.{finalInput, filesInput, finalRead}

@@ -1,7 +1,7 @@
 -- Document 02, item 4, "Two controllers head to head", sentence by sentence, for every sequence of bytes. Of one input s program and library give `finalText` and
 -- `finalFor` by the contracts of `final_text` and `final_of`; of files lent apart `filesText` and `filesFor`.
 -- Assumes nothing.
-use mathlib.Core.Path.{_≡_, refl, sym, ap, subst, _∙_}
+use mathlib.Core.Path.{_≡_, refl, ap, subst}
 use mathlib.Core.List.{List, _++_}
 use mathlib.Core.Logic.{_↔_}
 use Prim.Native.Nat.{ℕ, _+_, _<_, _≤_}
@@ -35,8 +35,7 @@ use Rattle.final_better.specs.declared.Better.{Better}
 use Rattle.final_better.specs.declared.Better.the-variants.{Neither}
 use Rattle.final_better.specs.Better.{BetterBy, betterPart, betterSteps, fileOf}
 use Rattle.final_better.proofs.Marks.{better-only}
-use Rattle.final_judge.specs.declared.Decided.{Decided}
-use Rattle.final_judge.specs.Finals.{FirstRuleFinal, in-files, in-network, StatesFinal, FinalReply, FilesReply, refusedFinal, decidedRead, inInput, finalFor, filesFor, decidedLines}
+use Rattle.final_judge.specs.Finals.{FirstRuleFinal, in-files, in-network, StatesFinal, FinalReply, FilesReply, decidedRead, inInput, finalFor, filesFor, decidedLines}
 use Rattle.final_judge.proofs.Returning.{final-is, files-is}
 use Rattle.theorems.proofs.Finals as Finals
 use Rattle.theorems.specs.Words.{markText, finalText, filesText}
