@@ -2,8 +2,8 @@
 // byte for how many plan parts follow, and these; each part stands behind its length, two bytes, low byte first. The
 // planner gets the network part, the judge the network part with one of the plan parts behind it. The exhaustive
 // enumeration in bench/ wrote the corpus and the expected output, so that the gate holds planner and judge to it.
-use streams::DECIDING_BYTES;
 use test_parts::MOST_ITEMS;
+use test_parts::NO_PART;
 use test_parts::next_count;
 use test_parts::next_part;
 use test_replies::print_mark;
@@ -36,7 +36,7 @@ fn judge_all(buffer: &mut [u8], length: usize, plans: usize) {
 fn turn() -> bool {
     let mut buffer = streams::input_buffer();
     let length = next_part(&mut buffer, 0);
-    if DECIDING_BYTES < length {
+    if length == NO_PART {
         return false;
     }
     plan_front(&buffer, length);

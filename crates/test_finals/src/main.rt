@@ -7,8 +7,8 @@
 // the first file, 1 for the second, 2 for neither; `offset` counts from the front of the one input, or, lent apart, from the
 // front of the better file, or of the first if neither is better. The exhaustive enumeration in bench/ wrote the corpus and
 // the expected output (bench/src/finals/corpus.rs says what occurs in it), so that the gate holds the judge of finals to it.
-use streams::DECIDING_BYTES;
 use test_parts::MOST_ITEMS;
+use test_parts::NO_PART;
 use test_parts::next_count;
 use test_parts::next_part;
 use test_replies::print_apart;
@@ -46,7 +46,7 @@ fn hold_all(buffer: &mut [u8], length: usize, pairs: usize) {
 fn turn() -> bool {
     let mut buffer = streams::input_buffer();
     let length = next_part(&mut buffer, 0);
-    if DECIDING_BYTES < length {
+    if length == NO_PART {
         return false;
     }
     hold_all(&mut buffer, length, next_count());
