@@ -1,10 +1,10 @@
 -- The read changes only what stands behind the first bytes.
 -- Assumes nothing.
-use Prim.Native.Nat.{_≤_, _-_}
+use Prim.Native.Nat.{_≤_}
 use native.Mathlib.Omega.{arith}
 use lib.ListN.{length}
-use borrow.Rule.Slice.PartMut.{take-put}
 use borrow.Author.Needs.{needs}
+use Rattle.test_parts.proofs.Fronts.{front-kept}
 use Rattle.test_parts.proofs.read_up_to.Statement.{statement}
 use Rattle.test_parts.proofs.read_up_to.Tie as tie
 
@@ -29,8 +29,8 @@ same-length c = search needs
 returns-3 : tie.Need-returns-3
 returns-3 c =
     let args· = c .before .before .before .before .before .before .before .args in
-    let starts : args· .at ≤ length (args· .buffer .now) = omega arith in
-    take-put (args· .at) (args· .end - args· .at) (args· .buffer .now) (c .before .before .read-full .last .1 .0) starts
+    let within : args· .at ≤ length (args· .buffer .now) = omega arith in
+    search (needs, front-kept, within)
 
 pub read-up-to-spec : {M : Type 1} → statement M
 read-up-to-spec =
