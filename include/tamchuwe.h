@@ -1,4 +1,5 @@
-/* Tamchuwe: the proved planner and judge for restoring radial feeders, as a static library for x86-64 Linux.
+/* Tamchuwe: the proved planner, judge and judge of finals for restoring radial feeders, as a static library for x86-64
+ * Linux.
  *
  *     rt check tamchuwe && rt staticlib tamchuwe        (writes target/staticlib/libtamchuwe.a)
  *     cc -Iinclude yours.c target/staticlib/libtamchuwe.a -o yours
