@@ -1,7 +1,8 @@
 #!/usr/bin/env python3
 """Writes the files of this folder: the networks of document 01, "Tried networks", with plans for them, network B in
 volt-amperes and with a guarded switch, and the largest network with the longest plan; and the standard input that the
-gate gives to `plan` (B) and to `mark` (B with the plan of case 8)."""
+gate gives to `plan` (B), to `mark` (B with the plan of case 8) and to `trial_final` (B with that plan and a cheaper
+one)."""
 import os
 import struct
 
@@ -59,11 +60,11 @@ D = network(
     [(0, 2, 1), (2, 9, 0), (2, 9, 0), (0, 2, 1)],
     [(0, 1, OPEN, 1), (1, 2, CLOSED, 1), (2, 3, OPEN, 1)],
 )
-CLOSE_3 = plan((3, 1))
+CLOSE_3, CLOSE_4 = plan((3, 1)), plan((4, 1))
 LARGEST, LONGEST = largest()
 FILES = {
     "b.net": B, "b_va.net": B_VA, "b_guarded.net": B_GUARDED, "d.net": D, "close_3.plan": CLOSE_3,
-    "largest.net": LARGEST, "largest.plan": LONGEST
+    "close_4.plan": CLOSE_4, "largest.net": LARGEST, "largest.plan": LONGEST
 }
 
 if __name__ == "__main__":
@@ -72,6 +73,7 @@ if __name__ == "__main__":
     files = {os.path.join(folder, name): data for name, data in FILES.items()}
     files[os.path.join(crates, "plan", "stdin")] = B
     files[os.path.join(crates, "mark", "stdin")] = B + CLOSE_3
+    files[os.path.join(crates, "trial_final", "stdin")] = B + CLOSE_3 + CLOSE_4
     for path, data in files.items():
         with open(path, "wb") as file:
             file.write(data)

@@ -1,4 +1,5 @@
-/* Tamchuwe: the proved planner and judge for restoring radial feeders, as a static library for x86-64 Linux.
+/* Tamchuwe: the proved planner, judge and judge of finals for restoring radial feeders, as a static library for x86-64
+ * Linux.
  *
  *     rt check tamchuwe && rt staticlib tamchuwe        (writes target/staticlib/libtamchuwe.a)
  *     cc -Iinclude yours.c target/staticlib/libtamchuwe.a -o yours
@@ -11,7 +12,8 @@
  * side. Of C's library it needs memcpy and memset. 64 KiB of stack suffice (measured, not proved).
  *
  * INPUT is any bytes at all. The planner expects a network file, the judge a network file with a plan file directly
- * behind it. All numbers in files are unsigned, two bytes unless four are named, low byte first. A record is its
+ * behind it, the judge of finals a network file with two plan files directly behind one another, or the three files
+ * lent apart. All numbers in files are unsigned, two bytes unless four are named, low byte first. A record is its
  * length in bytes (the length field included), its kind, its fields:
  *     network head   8, 1, elements (1 to 64), links (0 to 96)
  *     element       10, 2, own load, capacity, flags (1 source, 2 faulty, 3 both, 0 neither)
@@ -26,12 +28,15 @@
  * A network file is one head, its elements, its links, one end; a plan file one plan head, its steps, one end.
  * Elements and links are numbered from 0 in file order, steps from 1. A guarded switch has its ends at byte 4 and 6 of
  * its record, its form at 8, its cost at 10, as a link has, and its guard at 12. An accepted network file has at most
- * 2252 bytes, an accepted input of the judge at most 4302; the first 8192 bytes of an input decide.
+ * 2252 bytes, an accepted input of the judge at most 4302, an accepted final at most 6352 in its three files; the first
+ * 8192 bytes of an input, or of each file that is lent apart, decide.
  *
  * REFUSALS. What breaks a rule is answered by the first that it breaks, with its number and a place. Rules 1 to 12 and
  * 20 are asked of each record of the whole input in turn, 20 directly behind 9, then 13, then 14 to 18 of the network,
  * in this order. The place of 1 to 12 and 20 is the offset of the record's first byte, counted from the first byte of
- * the input, in the plan file too.
+ * the input, in plan files too. Of files lent apart each is asked 1 to 12 and 20 and then 13, the network file first,
+ * then the first plan file, then the second; 14 to 18 come behind all three. Their places count on: those of the first
+ * plan file begin at the network file's length, those of the second at the length of both.
  *      1 fewer than four bytes where a record is due      8 a form above 2; of a guarded switch also form 0
  *      2 a kind that may not come here                    9 a cost that does not suit the form
  *      3 not the kind's length                           20 a guard that is not an earlier switch
@@ -67,15 +72,17 @@
  *                   guard
  *
  * LINES. The planner's: PLAN steps cost, then OPEN link or CLOSE link for each step, then LOAD fed dark lost; or
- * NONE, then LOAD fed dark lost. The judge's: VALID cost excess, SHORT element or BROKEN step reason. Either's, where
- * a rule is broken: REFUSED number place. Numbers are in base ten, one blank stands between fields, and each line
- * ends with one line feed. What the numbers mean is said below, at the functions that answer them.
+ * NONE, then LOAD fed dark lost. The judge's: VALID cost excess, SHORT element or BROKEN step reason. Those of a final:
+ * the judge's line for each plan file, in file order. Where a rule is broken, of each of them one line and no other:
+ * REFUSED number place. Numbers are in base ten, one blank stands between fields, and each line ends with one line
+ * feed. What the numbers mean is said below, at the functions that answer them.
  *
- * VALUES. tamchuwe_plan and tamchuwe_mark answer a kind; the numbers that go with it are values, each at its index in
- * the function's table below. The front of `values`, which has room for `values_room` numbers, is filled with as many
- * values as fit, and later entries keep what they hold; `count` gets how many values there are, whether they fit or
- * not. A later version may add values behind these, and counts them; no value ever changes its index or meaning. So a
- * caller lends room for the values that it knows, and sees by `count` that the library has them.
+ * VALUES. tamchuwe_plan, tamchuwe_mark, tamchuwe_final and tamchuwe_final_apart answer a kind; the numbers that go with
+ * it are values, each at its index in the function's table below. The front of `values`, which has room for
+ * `values_room` numbers, is filled with as many values as fit, and later entries keep what they hold; `count` gets how
+ * many values there are, whether they fit or not. A later version may add values behind these, and counts them; no
+ * value ever changes its index or meaning. So a caller lends room for the values that it knows, and sees by `count`
+ * that the library has them.
  *
  * THE PRINTED PLAN operates each of its switches once: first the openings, then the closings, each by rising link
  * number. Of several cheapest plans of that form the one is printed whose set of switches comes first: at the lowest
@@ -90,7 +97,7 @@
 extern "C" {
 #endif
 
-/* What both answer for an input that breaks a rule. */
+/* What each answers for an input that breaks a rule. */
 enum { TAMCHUWE_REFUSED = 0 };
 
 /* What tamchuwe_plan answers else. */
@@ -99,12 +106,19 @@ enum { TAMCHUWE_PLAN = 1, TAMCHUWE_NONE = 2 };
 /* What tamchuwe_mark answers else. */
 enum { TAMCHUWE_BROKEN = 1, TAMCHUWE_SHORT = 2, TAMCHUWE_VALID = 3 };
 
+/* What tamchuwe_final and tamchuwe_final_apart answer else. */
+enum { TAMCHUWE_FINAL = 1 };
+
+/* Which plan file of a final is the better one. */
+enum { TAMCHUWE_FIRST = 0, TAMCHUWE_SECOND = 1, TAMCHUWE_NEITHER = 2 };
+
 /* Lengths in bytes that suffice for every input: by rule 18 a printed plan has at most 12 steps, and no printed
  * number has more than 20 digits (sums of loads are below 2^38: at most 12). */
 enum { TAMCHUWE_PLAN_FILE_LENGTH = 106, TAMCHUWE_PLAN_TEXT_LENGTH = 512, TAMCHUWE_MARK_TEXT_LENGTH = 64 };
+enum { TAMCHUWE_FINAL_TEXT_LENGTH = 128 };
 
 /* How many values this version has: what `count` gets, of whatever kind the answer is. */
-enum { TAMCHUWE_PLAN_VALUES = 5, TAMCHUWE_MARK_VALUES = 2 };
+enum { TAMCHUWE_PLAN_VALUES = 5, TAMCHUWE_MARK_VALUES = 2, TAMCHUWE_FINAL_VALUES = 9 };
 
 /* Plans the network file `network` of `length` bytes.
  *
@@ -145,6 +159,36 @@ uint64_t tamchuwe_mark(const uint8_t *input, size_t length, uint64_t *values, si
 /* The line that the program `mark` prints for the same input: VALID, SHORT, BROKEN or REFUSED. Answer and `out` as
  * for tamchuwe_plan_text. */
 size_t tamchuwe_mark_text(const uint8_t *input, size_t length, uint8_t *out, size_t room);
+
+/* Sets two plan files against one network: the network file, the first plan file and the second stand directly behind
+ * one another in `input` of `length` bytes.
+ *
+ * Answers TAMCHUWE_FINAL or TAMCHUWE_REFUSED; its values, by index:
+ *                             0        1      2      3      4      5      6        7        8
+ *     TAMCHUWE_FINAL          kind     a      b      kind   a      b      better   offset   length
+ *     TAMCHUWE_REFUSED        number   place  0      0      0      0      0        0        0
+ * The values 0 to 2 are the first plan file's mark, 3 to 5 the second's: its kind (TAMCHUWE_VALID, TAMCHUWE_SHORT or
+ * TAMCHUWE_BROKEN) and the two values that tamchuwe_mark has for it, were this plan file alone behind the network file.
+ * `better` is TAMCHUWE_FIRST, TAMCHUWE_SECOND or TAMCHUWE_NEITHER: VALID beats the rest, then the lower cost; an
+ * equal cost goes to the first. The part that is handed back are the step records of the better file, without its plan
+ * head and its end: the `length` bytes of `input` from `offset` on. With TAMCHUWE_NEITHER it is empty, length 0, at the
+ * first file's first step. */
+uint64_t tamchuwe_final(const uint8_t *input, size_t length, uint64_t *values, size_t values_room, size_t *count);
+
+/* The lines that the program `trial_final` prints for the same input: both marks, or REFUSED. Answer and `out` as for
+ * tamchuwe_plan_text. */
+size_t tamchuwe_final_text(const uint8_t *input, size_t length, uint8_t *out, size_t room);
+
+/* As tamchuwe_final, of three files lent apart. `offset` counts from the first byte of the better
+ * file, with TAMCHUWE_NEITHER from that of the first file. */
+uint64_t tamchuwe_final_apart(const uint8_t *network, size_t network_length, const uint8_t *first, size_t first_length,
+                              const uint8_t *second, size_t second_length, uint64_t *values, size_t values_room,
+                              size_t *count);
+
+/* As tamchuwe_final_text, of three files lent apart. */
+size_t tamchuwe_final_apart_text(const uint8_t *network, size_t network_length, const uint8_t *first,
+                                 size_t first_length, const uint8_t *second, size_t second_length, uint8_t *out,
+                                 size_t room);
 
 #ifdef __cplusplus
 }

@@ -1,5 +1,5 @@
-//! An independent planner and judge, an exhaustive enumeration written apart, and random inputs for comparing them
-//! with the proved ones.
+//! An independent planner, judge and judge of finals, an exhaustive enumeration written apart, and random inputs for
+//! comparing them with the proved ones.
 pub mod brim;
 pub mod charged;
 pub mod comparison;

@@ -1,10 +1,8 @@
-//! The proved planner and judge, from the static library, beside independent ones: equal replies, the ratio of their
-//! times, the stack they need.
+//! The proved planner, judge and judge of finals, from the static library, beside independent ones: equal replies, the
+//! ratio of their times, the stack they need.
 mod differential;
-#[cfg(feature = "finals")]
 mod finals_differential;
 mod library;
-#[cfg(feature = "finals")]
 mod library_finals;
 mod lines;
 mod stack;
@@ -15,7 +13,6 @@ use std::process::ExitCode;
 
 const SEED: u64 = 2026;
 const COUNT: usize = 250_000;
-#[cfg(feature = "finals")]
 const FINALS: usize = 50_000;
 const EXAMPLES: &str = concat!(env!("CARGO_MANIFEST_DIR"), "/../examples");
 const USAGE: &str =
@@ -32,7 +29,6 @@ fn run(arguments: &[String]) -> Result<(), String> {
     let (name, rest) = arguments.split_first().ok_or(USAGE)?;
     match name.as_str() {
         "differential" => differential::run(number(rest, 0, SEED)?, number(rest, 1, COUNT as u64)? as usize),
-        #[cfg(feature = "finals")]
         "finals" => finals_differential::run(number(rest, 0, SEED)?, number(rest, 1, FINALS as u64)? as usize),
         "time" => {
             timing::run(number(rest, 0, SEED)?);

@@ -1,7 +1,8 @@
 //! The stack that the library's functions use, on a chain of 64 elements and on the largest network with the longest
-//! plan.
-use crate::library;
+//! plan; in finals that plan stands against itself.
+use crate::{library, library_finals};
 use bench::draft::{plan_file, Draft, FIXED, OPEN};
+use bench::finals::Files;
 use bench::independent::{ELEMENTS, SWITCHES};
 use std::path::Path;
 
@@ -33,7 +34,7 @@ pub fn run(folder: &Path) -> Result<(), String> {
         call();
         0
     })?;
-    println!("a thread with a stack of {ENOUGH} bytes ran all four functions");
+    println!("a thread with a stack of {ENOUGH} bytes ran all eight functions");
     Ok(())
 }
 
@@ -55,6 +56,11 @@ fn on_thread(stack: usize, pairs: [Pair; 2], measure: Measure) -> Result<usize, 
 }
 
 fn most_used(pair: &Pair, measure: Measure) -> usize {
+    alone(pair, measure).max(against_itself(pair, measure))
+}
+
+/// Planner and judge.
+fn alone(pair: &Pair, measure: Measure) -> usize {
     let (network, both, mut out) = (&pair[0], pair.concat(), vec![0; 4096]);
     let (mut reply, mut mark, mut values, mut lengths) = (0, 0, [0; 5], [0; 2]);
     let used = [
@@ -64,6 +70,21 @@ fn most_used(pair: &Pair, measure: Measure) -> usize {
         measure(&mut || lengths[1] = library::mark_text(&both, &mut out)),
     ];
     assert!(reply == 1 && mark == 3 && lengths.iter().all(|&length| length > 0), "a plan, and a valid one");
+    used.into_iter().max().unwrap_or(0)
+}
+
+/// Finals of one input and of files lent apart.
+fn against_itself([network, plan]: &Pair, measure: Measure) -> usize {
+    let files = Files { network: network.clone(), plans: [plan.clone(), plan.clone()] };
+    let (input, mut out) = (files.input(), vec![0; 4096]);
+    let (mut kinds, mut values, mut lengths) = ([0; 2], [0; library_finals::VALUES], [0; 2]);
+    let used = [
+        measure(&mut || kinds[0] = library_finals::of_one_input(&input, &mut values).0),
+        measure(&mut || lengths[0] = library_finals::one_input_text(&input, &mut out)),
+        measure(&mut || kinds[1] = library_finals::lent_apart(&files, &mut values).0),
+        measure(&mut || lengths[1] = library_finals::apart_text(&files, &mut out)),
+    ];
+    assert!(kinds == [1; 2] && values[6] == 0 && lengths.iter().all(|&length| length > 0), "finals, won by the first");
     used.into_iter().max().unwrap_or(0)
 }
 

@@ -1,5 +1,5 @@
-//! The corpora of crates/test_corpus and bench/finals, and the enumeration beside the independent implementation on more
-//! networks and finals; without the proved library.
+//! The corpora of crates/test_corpus and crates/test_finals, and the enumeration beside the independent implementation on
+//! more networks and finals; without the proved library.
 use bench::{comparison, corpus, finals};
 use std::path::Path;
 use std::process::ExitCode;

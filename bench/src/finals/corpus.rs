@@ -1,4 +1,11 @@
 //! The stored corpus of finals: networks with pairs of plans, and what the enumeration answers to them.
+//! crates/test_finals/src/main.rt says how both files are laid out.
+//!
+//! Every kind of answer (each mark of each file; who wins and why; each refusal by each file that can break its rule,
+//! and by the start) occurs at least 25 times for one input and for files lent apart, every two marks at least 3 times,
+//! every kind at least 5 times with wide elements and with guarded switches, and every kind that has a cost at least 10
+//! times with guards in it. At least 10 pairs of each kind would be won by the other plan if fewer steps did or if guards
+//! cost nothing. One input is as long as any that is accepted.
 use super::comparison::Answers;
 use super::coverage::{listed, Coverage, Each};
 use super::draw;

@@ -1,9 +1,8 @@
-// Runs readers, writer, planner and judge on the cases of standard input and prints what each gets. Standard input says how a case is written,
+// Runs readers, writer, planner, judge and the judge of finals on the cases of standard input and prints what each gets. Standard input says how a case is written,
 // and the expected output was derived by hand from documents 01 and 02.
 use file_plan::plan::Plan;
 use file_writer::Written;
 use libc::STDIN_FILENO;
-use libc::STDOUT_FILENO;
 use network::refusal;
 use network::refusal::Answer;
 use network::refusal::Refusal;
@@ -13,11 +12,18 @@ use plan_sums::Sums;
 use test_files::number;
 use test_files::put;
 use test_files::put_times;
+use test_replies::field;
+use test_replies::print_apart;
+use test_replies::print_final;
+use test_replies::print_mark;
+use test_replies::print_plan;
+use test_replies::text;
 
 // What runs on a case's bytes. Into has the length of the plan buffer, PlanFrom the plan file's place, and Write the length of the buffer.
 enum Run {
     Planner,
     Judge,
+    Final,
     Cheapest,
     Network,
     Input,
@@ -25,16 +31,6 @@ enum Run {
     Into(usize),
     PlanFrom(usize),
     Write(usize),
-}
-
-fn text(bytes: &[u8]) {
-    io::write_all(STDOUT_FILENO, bytes);
-}
-
-// A blank and a number.
-fn field(n: u64) {
-    text(b" ");
-    io::print_decimal(STDOUT_FILENO, n);
 }
 
 fn wide(byte: u8) -> u64 {
@@ -143,18 +139,6 @@ fn write(bytes: &[u8], length: usize) {
     write_into(plan, &mut buffer, length);
 }
 
-fn lines(bytes: &[u8]) {
-    let mut out = io::buffer();
-    let length = planner::plan_text(bytes, &mut out);
-    text(&out[..length]);
-}
-
-fn mark_line(bytes: &[u8]) {
-    let mut out = io::buffer();
-    let length = judge::mark_text(bytes, &mut out);
-    text(&out[..length]);
-}
-
 fn show_sums(sums: Sums) {
     field(sums.fed);
     field(sums.dark);
@@ -210,8 +194,9 @@ fn cheapest(bytes: &[u8]) {
 
 fn run_on(how: Run, bytes: &[u8]) {
     match how {
-        Run::Planner => lines(bytes),
-        Run::Judge => mark_line(bytes),
+        Run::Planner => print_plan(bytes),
+        Run::Judge => print_mark(bytes),
+        Run::Final => print_final(bytes),
         Run::Cheapest => cheapest(bytes),
         Run::Network => read_network(bytes),
         Run::Input => read_input(bytes),
@@ -342,6 +327,66 @@ fn again(input: &[u8], label: &[u8], signs: &[u8]) {
     );
 }
 
+// The case's label, and what three files get that are lent apart: they end at `start`, `middle` and `end`.
+fn run_apart(label: &[u8], bytes: &[u8], start: usize, middle: usize, end: usize) {
+    if middle < start {
+        return;
+    }
+    if end < middle {
+        return;
+    }
+    if bytes.len() < end {
+        return;
+    }
+    text(label);
+    text(b": ");
+    print_apart(&bytes[0..start], &bytes[start..middle], &bytes[middle..end]);
+}
+
+// Three texts behind what stands in the buffer, each as a file of its own.
+fn lend(
+    label: &[u8],
+    out: &mut [u8; 4096],
+    at: usize,
+    network: &[u8],
+    first: &[u8],
+    second: &[u8],
+) {
+    let start = put(out, at, network);
+    let middle = put(out, start, first);
+    let end = put(out, middle, second);
+    run_apart(label, out, start, middle, end);
+}
+
+// The text up to a slash, up to the next, and what follows.
+fn apart(input: &[u8], label: &[u8], signs: &[u8], first: usize, second: usize) {
+    if second < first {
+        return;
+    }
+    if signs.len() < second {
+        return;
+    }
+    let mut out = io::buffer();
+    let at = put_first(&mut out, input, signs);
+    lend(
+        label,
+        &mut out,
+        at,
+        &signs[0..first],
+        &signs[first..second],
+        &signs[second..],
+    );
+}
+
+fn finals(input: &[u8], label: &[u8], signs: &[u8]) {
+    let first = find(signs, 0, b'/');
+    if signs.len() <= first {
+        return;
+    }
+    run_text(input, label, Run::Final, signs);
+    apart(input, label, signs, first, find(signs, first + 1, b'/'));
+}
+
 // A program that begins with a number, by what stands behind its dash.
 fn run_numbered(input: &[u8], label: &[u8], program: &[u8], signs: &[u8]) {
     let n = number(program);
@@ -370,6 +415,7 @@ fn run_case(input: &[u8], label: &[u8], program: &[u8], signs: &[u8]) {
         b'j' => run_text(input, label, Run::Judge, signs),
         b'b' => both(input, label, signs),
         b'a' => again(input, label, signs),
+        b'f' => finals(input, label, signs),
         b'c' => run_text(input, label, Run::Cheapest, signs),
         b'n' => run_text(input, label, Run::Network, signs),
         b'i' => run_text(input, label, Run::Input, signs),

@@ -9,22 +9,16 @@ use Rattle.test_corpus.proofs.judge_all.Statement.{statement}
 use Rattle.test_corpus.proofs.judge_all.Tie as tie
 
 abbrev Inv-loop : tie.InvT-loop
-Inv-loop buffer₀ network plans counter₀ buffer counter = length buffer ≡ length buffer₀
+Inv-loop buffer₀ network many counter₀ buffer counter = length buffer ≡ length buffer₀
 
 abbrev μ-loop : tie.MeasureT-loop
-μ-loop buffer₀ network plans counter₀ buffer counter = plans - counter
+μ-loop buffer₀ network many counter₀ buffer counter = many - counter
 
 loop-holds : tie.Need-loop-holds Inv-loop μ-loop
 loop-holds c = refl
 
-next-length-requires : tie.Need-next-length-requires Inv-loop μ-loop
-next-length-requires c κs = search needs
-
-wrapping-add-usize-requires : tie.Need-wrapping-add-usize-requires Inv-loop μ-loop
-wrapping-add-usize-requires c κs = search needs
-
-judge-up-to-requires : tie.Need-judge-up-to-requires Inv-loop μ-loop
-judge-up-to-requires c κs = search needs
+judge-next-requires : tie.Need-judge-next-requires Inv-loop μ-loop
+judge-next-requires c κs = search needs
 
 add-counter : tie.Need-add-counter Inv-loop μ-loop
 add-counter c = search needs
@@ -48,9 +42,7 @@ judge-all-spec =
     Inv-loop
     μ-loop
     loop-holds
-    next-length-requires
-    wrapping-add-usize-requires
-    judge-up-to-requires
+    judge-next-requires
     add-counter
     loop-less
     loop-again
