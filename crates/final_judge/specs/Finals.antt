@@ -72,6 +72,13 @@ FinalReply s = PrintedBy (StatesFinal s) (FirstBrokenFinal s)
 abbrev pub FilesReply : (network first second : List ℕ) → List ℕ → Type 0
 FilesReply network first second = PrintedBy (FilesOf network first second) (FirstBrokenFiles network first second)
 
+-- "A refusal hands out no plan, mark or partial network.": no mark and no part
+pub record HandsNothing (f : Refusal) (d : Decided) : Type 0 where
+  pub first-none : d .marks .first ≡ Mark·.Refused f
+  pub second-none : d .marks .second ≡ Mark·.Refused f
+  pub better-none : d .part .better ≡ Neither
+  pub part-none : d .part .length ≡ 0
+
 -- ---- what computes
 
 unfoldable pub refusedFinal : Refusal → Decided

@@ -44,7 +44,7 @@ use Rattle.final_better.proofs.Places.{behind-head, part-bytes, part-in-input}
 use Rattle.final_better.proofs.Accepted.{of-files, of-apart}
 use Rattle.final_lines.specs.FinalLines.{markLines, finalLines}
 use Rattle.final_judge.specs.declared.Decided.{Decided}
-use Rattle.final_judge.specs.Finals.{StatesFinal, FirstRuleFinal, DecidedBy, marked, refused, ReadFormed, bothMarks, refusedFinal, markedFinal, finalAccepted, finalAnswered, decidedRead, inInput, finalFor, filesFor, decidedLines}
+use Rattle.final_judge.specs.Finals.{StatesFinal, FirstRuleFinal, HandsNothing, DecidedBy, marked, refused, ReadFormed, bothMarks, refusedFinal, markedFinal, finalAccepted, finalAnswered, decidedRead, inInput, finalFor, filesFor, decidedLines}
 use Rattle.final_judge.proofs.Forming.{unread, formed-final, formed-files}
 use Rattle.final_judge.proofs.Deciding.{part-better, decided-marked}
 use Rattle.final_judge.proofs.Returning.{final-is, files-is, final-refused-exactly, files-refused-exactly}
@@ -88,31 +88,25 @@ files-printed network first second bytes f = (
 
 -- ---- a refusal hands out no mark and no part
 
-pub record Nothing (f : Refusal) (d : Decided) : Type 0 where
-  pub first-none : d .marks .first ≡ Mark·.Refused f
-  pub second-none : d .marks .second ≡ Mark·.Refused f
-  pub better-none : d .part .better ≡ Neither
-  pub part-none : d .part .length ≡ 0
-
-refused-nothing : (f : Refusal) → Nothing f (refusedFinal f)
+refused-nothing : (f : Refusal) → HandsNothing f (refusedFinal f)
 unfolding refusedFinal partOf
 refused-nothing f = record { first-none = refl; second-none = refl; better-none = refl; part-none = refl }
 
-accepted-nothing : (r : FinalRead) (a : Answer) (f : Refusal) → finalAccepted r a .answer ≡ Refused f → Nothing f (finalAccepted r a)
+accepted-nothing : (r : FinalRead) (a : Answer) (f : Refusal) → finalAccepted r a .answer ≡ Refused f → HandsNothing f (finalAccepted r a)
 unfolding finalAccepted markedFinal refusedFinal
 accepted-nothing r Accepted f e = unread f (sym e)
-accepted-nothing r (Refused g) f e = let same : g ≡ f = cc in subst (λ (h : Refusal). Nothing h (refusedFinal g)) same (refused-nothing g)
+accepted-nothing r (Refused g) f e = let same : g ≡ f = cc in subst (λ (h : Refusal). HandsNothing h (refusedFinal g)) same (refused-nothing g)
 
-answered-nothing : (r : FinalRead) (a : Answer) (f : Refusal) → finalAnswered r a .answer ≡ Refused f → Nothing f (finalAnswered r a)
+answered-nothing : (r : FinalRead) (a : Answer) (f : Refusal) → finalAnswered r a .answer ≡ Refused f → HandsNothing f (finalAnswered r a)
 unfolding finalAnswered refusedFinal
 answered-nothing r Accepted f e = accepted-nothing r (answerTo (r .net)) f e
-answered-nothing r (Refused g) f e = let same : g ≡ f = cc in subst (λ (h : Refusal). Nothing h (refusedFinal g)) same (refused-nothing g)
+answered-nothing r (Refused g) f e = let same : g ≡ f = cc in subst (λ (h : Refusal). HandsNothing h (refusedFinal g)) same (refused-nothing g)
 
-pub files-nothing : (network first second : List ℕ) (f : Refusal) → filesFor network first second .answer ≡ Refused f → Nothing f (filesFor network first second)
+pub files-nothing : (network first second : List ℕ) (f : Refusal) → filesFor network first second .answer ≡ Refused f → HandsNothing f (filesFor network first second)
 unfolding filesFor decidedRead
 files-nothing network first second = let r = finalRead (filesInput network first second) in answered-nothing r (r .answer)
 
-pub final-nothing : (s : List ℕ) (f : Refusal) → finalFor s .answer ≡ Refused f → Nothing f (finalFor s)
+pub final-nothing : (s : List ℕ) (f : Refusal) → finalFor s .answer ≡ Refused f → HandsNothing f (finalFor s)
 unfolding finalFor inInput partIn decidedRead
 final-nothing s f e =
     let r = finalRead (finalInput s) in

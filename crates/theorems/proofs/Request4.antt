@@ -35,7 +35,7 @@ use Rattle.final_better.specs.declared.Better.{Better}
 use Rattle.final_better.specs.declared.Better.the-variants.{Neither}
 use Rattle.final_better.specs.Better.{BetterBy, betterPart, betterSteps, fileOf}
 use Rattle.final_better.proofs.Marks.{better-only}
-use Rattle.final_judge.specs.Finals.{FirstRuleFinal, in-files, in-network, StatesFinal, FinalReply, FilesReply, decidedRead, inInput, finalFor, filesFor, decidedLines}
+use Rattle.final_judge.specs.Finals.{FirstRuleFinal, in-files, in-network, StatesFinal, HandsNothing, FinalReply, FilesReply, decidedRead, inInput, finalFor, filesFor, decidedLines}
 use Rattle.final_judge.proofs.Returning.{final-is, files-is}
 use Rattle.theorems.proofs.Finals as Finals
 use Rattle.theorems.specs.Words.{markText, finalText, filesText}
@@ -115,10 +115,10 @@ pub apart-refused-exactly : (network first second : List ℕ) → Bytes network 
 apart-refused-exactly = Finals.files-printed
 
 -- "A refusal hands out no plan, mark or partial network."
-pub refused-hands-nothing : (s : List ℕ) (f : Refusal) → finalFor s .answer ≡ Refused f → Finals.Nothing f (finalFor s)
+pub refused-hands-nothing : (s : List ℕ) (f : Refusal) → finalFor s .answer ≡ Refused f → HandsNothing f (finalFor s)
 refused-hands-nothing = Finals.final-nothing
 
-pub apart-refused-hands-nothing : (network first second : List ℕ) (f : Refusal) → filesFor network first second .answer ≡ Refused f → Finals.Nothing f (filesFor network first second)
+pub apart-refused-hands-nothing : (network first second : List ℕ) (f : Refusal) → filesFor network first second .answer ≡ Refused f → HandsNothing f (filesFor network first second)
 apart-refused-hands-nothing = Finals.files-nothing
 
 -- ---- "Rules 14 to 18 come after both;"
