@@ -13,14 +13,14 @@ pub fn packed_ends(own: OwnEnds) -> [u8; 448]
     let far = own.far;
     let mut out: [u8; 448] = [0; 448];
     let mut i: usize = 0;
-    while i < 448 {
-        if i < 64 {
-            out[i] = head[i];
-        } else if i < 256 {
-            out[i] = next[i - 64];
-        } else {
-            out[i] = far[i - 256];
-        }
+    while i < 64 {
+        out[i] = head[i];
+        out[64 + i] = next[i];
+        out[128 + i] = next[64 + i];
+        out[192 + i] = next[128 + i];
+        out[256 + i] = far[i];
+        out[320 + i] = far[64 + i];
+        out[384 + i] = far[128 + i];
         i += 1;
     }
     out
@@ -33,12 +33,9 @@ pub fn packed_rating(load: &[u32], capacity: &[u32]) -> [u32; 128]
 {
     let mut out: [u32; 128] = [0; 128];
     let mut i: usize = 0;
-    while i < 128 {
-        if i < 64 {
-            out[i] = load[i];
-        } else {
-            out[i] = capacity[i - 64];
-        }
+    while i < 64 {
+        out[i] = load[i];
+        out[64 + i] = capacity[i];
         i += 1;
     }
     out

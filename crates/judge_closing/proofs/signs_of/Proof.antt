@@ -4,7 +4,7 @@ use Prim.Native.Nat.{_-_, _≤_}
 use mathlib.Core.Path.{refl}
 use native.Mathlib.Omega.{arith}
 use Rattle.feeding.specs.Networks.{at}
-use Rattle.feeding_walks.proofs.Packed.{Filled, filled-none, filled-more, filled-all}
+use Rattle.judge_closing.proofs.Filling.{Filled, filled-none, filled-more, filled-all}
 use Rattle.judge_closing.specs.Checks.{signOf}
 use Rattle.judge_closing.proofs.signs_of.Statement.{statement}
 use Rattle.judge_closing.proofs.signs_of.Tie as tie
