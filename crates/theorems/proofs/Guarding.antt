@@ -117,16 +117,6 @@ module _ (s : List ℕ) where
 -- ---- the record of each link of a file that keeps the rules
 
 module _ (s : List ℕ) (E K : ℕ) where
-  stand-split : (a b : List Stage) {at end : ℕ} → Stand s E K (a ++ b) at end → (mid : ℕ) × Stand s E K a at mid × Stand s E K b mid end
-  stand-split [] b {at = at} st = (at, none, st)
-  stand-split (x ∷ a) b (next k st) = let r = stand-split a b st in (r .0, next k (r .1), r .2)
-
-  stand-links : (n l : ℕ) (b : List Stage) {at end : ℕ} → l < n → Stand s E K (replicate n Links ++ b) at end
-      → (mid : ℕ) × Stand s E K (replicate l Links) at mid × Keeps s E K mid Links
-  stand-links zero l b h st = absurd (omega arith)
-  stand-links (suc n) zero b {at = at} h (next k st) = (at, none, k)
-  stand-links (suc n) (suc l) b h (next k st) = let r = stand-links n l b (omega arith) st in (r .0, next k (r .1), r .2)
-
   -- a link's record that is not of kind 8 is of kind 3
   other-link : (at : ℕ) → Keeps s E K at Links → ¬ (kindField s at ≡ 8) → kindField s at ≡ 3
   other-link at keeps other = go (eqb (kindField s at) 3) refl

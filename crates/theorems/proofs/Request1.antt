@@ -1,5 +1,5 @@
 -- Document 02, item 1, "Loads above 65,535", sentence by sentence, for every sequence of bytes s. `planText`, `markText`, `outcome` are what planner, judge and
--- library give by their contracts (Demand1); that rules 1 to 13 are answered both ways, with kind 7 among the kinds, is Demand1's.
+-- library give by their contracts (Demand1); that rules 1 to 13 and 20 are answered both ways, with kind 7 among the kinds, is Demand1's.
 -- Assumes nothing.
 use mathlib.Core.Path.{_≡_, refl, sym, ap, subst, _∙_}
 use mathlib.Core.Bool.{true}
