@@ -113,14 +113,17 @@ module _ (net : Net) (q : List Step) (s : Step) (inside : s .link < net .grid .K
   pub cost-paid : PaidFor net q (net .guard (s .link)) → costOf net (q ++ (s ∷ [])) ≡ costOf net q + net .cost (s .link)
   cost-paid p =
       cost-behind
-      ∙ rw (lt-ltb (net .guard (s .link)) (net .grid .K) (p .link), paid-out net q (net .guard (s .link)) p) (omega arith)
+      ∙ rw (lt-ltb (net .guard (s .link)) (net .grid .K) (p .link), paid-out net q (net .guard (s .link)) p)
+      (omega arith)
 
   -- it has a guard that is not: twice the guard's cost too
   pub cost-new : HasGuard net (s .link) → ¬ PaidFor net q (net .guard (s .link))
       → costOf net (q ++ (s ∷ [])) ≡ costOf net q + net .cost (s .link) + 2 * net .cost (net .guard (s .link))
-  cost-new has unpaid = cost-behind ∙ rw (lt-ltb (net .guard (s .link)) (net .grid .K) has, go (guards? net (operated q) _) refl)
+  cost-new has unpaid =
+      cost-behind ∙ rw (lt-ltb (net .guard (s .link)) (net .grid .K) has, go (guards? net (operated q) _) refl)
     where
-      go : (t : Bool) → guards? net (operated q) (net .guard (s .link)) ≡ t → guards? net (operated q) (net .guard (s .link)) ≡ false
+      go : (t : Bool) → guards? net (operated q) (net .guard (s .link)) ≡ t
+          → guards? net (operated q) (net .guard (s .link)) ≡ false
       go true t = absurd (unpaid (paid-in net q (net .guard (s .link)) has t))
       go false t = t
 

@@ -33,8 +33,10 @@ module _ (net : Net) (guard : ℕ → ℕ) where
   good-to : (c : Config) (q : List Step) → Good net (Operable net) c q → Good other (Operable other) c q
   unfolding Good
   good-to c [] h = h
-  good-to c (s ∷ q) (g, rest) =
-      (record { operable = operable-to (g .operable); changes = g .changes; safe = g .safe }, good-to (put c (s .link) (s .want)) q rest)
+  good-to c (s ∷ q) (g, rest) = (
+    record { operable = operable-to (g .operable); changes = g .changes; safe = g .safe },
+    good-to (put c (s .link) (s .want)) q rest,
+  )
 
 valid-to : (net : Net) (guard : ℕ → ℕ) (q : List Step) → ValidPlan net q → ValidPlan (withGuards net guard) q
 valid-to net guard q v = record {

@@ -30,6 +30,8 @@ module _ (P : ℕ → Type 0) (known : ℕ → Bool) (s : List ℕ) (on : (at : 
   pub both-input-placed : P 0 → Placed P (bothInputBy known s)
   unfolding bothInputBy planBehindBy
   both-input-placed front =
-      then-placed P (networkFileBy known s) (λ at stage n. planBehindBy known s at n) (network-placed P known s on front)
-      (λ at stage n h. then-placed P (planInputBy known s (n .links) at) (paired n) (plan-input-placed P known s on (n .links) at h)
+      then-placed P (networkFileBy known s) (λ at stage n. planBehindBy known s at n)
+      (network-placed P known s on front)
+      (λ at stage n h. then-placed P (planInputBy known s (n .links) at) (paired n)
+      (plan-input-placed P known s on (n .links) at h)
       (λ o last p h′. h′))

@@ -121,10 +121,12 @@ pub then-placed : {A B : Type 0} (P : ℕ → Type 0) (o : Reading A) (f : ℕ �
 then-placed P (refused r) f h then = h
 then-placed P (reached at stage a) f h then = then at stage a h
 
-pub closed-placed : {A : Type 0} (P : ℕ → Type 0) (s : List ℕ) (at : ℕ) (stage : Stage) (a : A) → P at → Placed P (closed s at stage a)
+pub closed-placed : {A : Type 0} (P : ℕ → Type 0) (s : List ℕ) (at : ℕ) (stage : Stage) (a : A) → P at
+    → Placed P (closed s at stage a)
 closed-placed {A} P s at stage a h = go (ltb at (length s))
   where
-    go : (t : Bool) → Placed {A = A} P (pick t (refused (record { rule = ByteAfterEnd; place = at })) (reached at stage a))
+    go : (t : Bool)
+        → Placed {A = A} P (pick t (refused (record { rule = ByteAfterEnd; place = at })) (reached at stage a))
     go true = h
     go false = h
 
@@ -140,8 +142,10 @@ module _ (P : ℕ → Type 0) (known : ℕ → Bool) (s : List ℕ) (on : (at : 
   records-placed {A} seen into (suc n) at stage a h =
       go (firstBroken (recordRulesBy known s (seen a) at stage)) (records-placed seen into n)
     where
-      go : (v : Verdict) → ((at′ : ℕ) (stage′ : Stage) (a′ : A) → P at′ → Placed P (recordsBy known s seen into n at′ stage′ a′))
-          → Placed P (onFound (foundBy s at stage v) (λ long next. recordsBy known s seen into n (at + long) next (into at a)))
+      go : (v : Verdict)
+          → ((at′ : ℕ) (stage′ : Stage) (a′ : A) → P at′ → Placed P (recordsBy known s seen into n at′ stage′ a′))
+          → Placed P (onFound (foundBy s at stage v)
+          (λ long next. recordsBy known s seen into n (at + long) next (into at a)))
       go Kept rest = rest (at + lengthField s at) _ (into at a) (on at h)
       go (Broken r) rest = h
 
@@ -153,11 +157,13 @@ module _ (P : ℕ → Type 0) (known : ℕ → Bool) (s : List ℕ) (on : (at : 
       (λ at stage n h. then-placed P (recordsBy known s (always nothingSeen) (withElement s) (word s 4) at stage n)
       (λ after next m. linksOnBy known s after (afterLast next) m)
       (records-placed (always nothingSeen) (withElement s) (word s 4) at stage n h)
-      (λ at′ stage′ n′ h′. then-placed P (recordsBy known s networkSeen (withLink s) (word s 6) at′ (afterLast stage′) n′)
+      (λ at′ stage′ n′ h′.
+      then-placed P (recordsBy known s networkSeen (withLink s) (word s 6) at′ (afterLast stage′) n′)
       (λ after next m. endOnBy known s after (afterLast next) m)
       (records-placed networkSeen (withLink s) (word s 6) at′ (afterLast stage′) n′ h′)
       (λ at″ stage″ n″ h″. records-placed (always nothingSeen) asIs 1 at″ (afterLast stage″) n″ h″)))
 
   pub network-input-placed : P 0 → Placed P (networkInputBy known s)
   unfolding networkInputBy
-  network-input-placed front = then-placed P (networkFileBy known s) (closed s) (network-placed front) (closed-placed P s)
+  network-input-placed front =
+      then-placed P (networkFileBy known s) (closed s) (network-placed front) (closed-placed P s)

@@ -23,7 +23,8 @@ module _ (s : List ℕ) (E K : ℕ) where
   stand-append none y = y
   stand-append (next k x) y = next k (stand-append x y)
 
-  pub stand-split : (a b : List Stage) {at end : ℕ} → Stand s E K (a ++ b) at end → (mid : ℕ) × Stand s E K a at mid × Stand s E K b mid end
+  pub stand-split : (a b : List Stage) {at end : ℕ} → Stand s E K (a ++ b) at end
+      → (mid : ℕ) × Stand s E K a at mid × Stand s E K b mid end
   stand-split [] b {at = at} st = (at, none, st)
   stand-split (x ∷ a) b (next k st) = let r = stand-split a b st in (r .0, next k (r .1), r .2)
 

@@ -1,4 +1,6 @@
--- Records one behind the other, by their lengths alone: they end at one place, and more of them end no sooner. So the links that were read stand where the paper looks for them, and what is seen of them tells which earlier links are switches; by induction over the links.
+-- Records one behind the other, by their lengths alone: they end at one place, and more of them end no sooner. So the
+-- links that were read stand where the paper looks for them, and what is seen of them tells which earlier links are
+-- switches, those of a lower number that are not fixed; by induction over the links.
 -- Assumes nothing.
 use mathlib.Core.Path.{_≡_, refl, sym, ap, subst, _∙_}
 use mathlib.Core.Bool.{Bool, true, false}
@@ -178,50 +180,60 @@ module _ (s : List ℕ) (E K : ℕ) where
     lower : (g : ℕ) → g < l → (place : ℕ) × LinkStands g place × (place < at)
     lower g lt =
         let r = stand-split s E K (Head ∷ replicate E Elements) (replicate l Links) stand in
-        let q = stand-links l g [] lt (subst (λ xs. Stand s E K xs (r .0) at) (sym (append-nil (replicate l Links))) (r .2)) in
+        let all = subst (λ xs. Stand s E K xs (r .0) at) (sym (append-nil (replicate l Links))) (r .2) in
+        let q = stand-links l g [] lt all in
         (q .0, stand-append s E K (r .1) (q .1), q .3)
 
     -- "an earlier switch link": its number is lower, and its form is not 0
-    pub earlier-number : (g : ℕ) → EarlierSwitch s E at g ↔ ((g < l) × ((place : ℕ) → LinkStands g place → ¬ (word s (place + 8) ≡ 0)))
-    earlier-number g = (λ x. (below x (ltb g l) refl, λ place st. there x place (link-lead g place st)), λ h. back h (lower g (h .0)))
+    pub earlier-number : (g : ℕ) → EarlierSwitch s E at g
+        ↔ ((g < l) × ((place : ℕ) → LinkStands g place → ¬ (word s (place + 8) ≡ 0)))
+    earlier-number g = (
+      λ x. (below x (ltb g l) refl, λ place st. there x place (link-lead g place st)),
+      λ h. back (h .1) (lower g (h .0)),
+    )
       where
         below : EarlierSwitch s E at g → (t : Bool) → ltb g l ≡ t → g < l
         below x true t = ltb-true g l t
         below x false t =
-            absurd (omega (arith, x .earlier, lead-later s (omega (arith, ltb-false g l t)) (link-lead l at stand) (x .stands)))
+            let more : 1 + E + l ≤ 1 + E + g = omega (arith, ltb-false g l t) in
+            absurd (omega (arith, x .earlier, lead-later s more (link-lead l at stand) (x .stands)))
 
         there : EarlierSwitch s E at g → (place : ℕ) → Lead s (1 + E + g) 0 place → ¬ (word s (place + 8) ≡ 0)
         there x place lead z = x .switch (ap (λ (p : ℕ). word s (p + 8)) (lead-once s (x .stands) lead) ∙ z)
 
-        back : ((g < l) × ((place : ℕ) → LinkStands g place → ¬ (word s (place + 8) ≡ 0)))
+        back : ((place : ℕ) → LinkStands g place → ¬ (word s (place + 8) ≡ 0))
             → ((place : ℕ) × LinkStands g place × (place < at)) → EarlierSwitch s E at g
-        back h (place, st, earlier) = record { place = place; stands = link-lead g place st; earlier = earlier; switch = h .1 place st }
+        back unfixed (place, st, earlier) =
+            record { place = place; stands = link-lead g place st; earlier = earlier; switch = unfixed place st }
 
     -- so rule 20 is broken where the guard's number is not lower, or that link is fixed
-    pub guard-number : (stage : Stage) → kindField s at ≡ 8
-        → BreaksRule s E K at stage BadGuard
+    pub guard-number : (stage : Stage) → kindField s at ≡ 8 → BreaksRule s E K at stage BadGuard
         ↔ ((l ≤ word s (at + 12)) ⊎ ((place : ℕ) × LinkStands (word s (at + 12)) place × (word s (place + 8) ≡ 0)))
-    guard-number stage eight = (λ b. go (b .1) (ltb (word s (at + 12)) l) refl, λ h. (eight, λ x. back x h))
+    guard-number stage eight = (λ b. go (b .1) (ltb g l) refl, λ h. (eight, λ x. back x h))
       where
         g : ℕ
         g = word s (at + 12)
 
-        fixed : (place : ℕ) → LinkStands g place → ¬ EarlierSwitch s E at g → g < l → (t : Bool) → eqb (word s (place + 8)) 0 ≡ t
-            → (place′ : ℕ) × LinkStands g place′ × (word s (place′ + 8) ≡ 0)
-        fixed place st no-switch lt true t = (place, st, eqb-true (word s (place + 8)) 0 t)
-        fixed place st no-switch lt false t = absurd (no-switch (earlier-number g .1 (
-          lt,
-          λ p st′ z. eqb-false (word s (place + 8)) 0 t
-              (ap (λ (x : ℕ). word s (x + 8)) (lead-once s (link-lead g place st) (link-lead g p st′)) ∙ z),
-        )))
+        Fixed : Type 0
+        Fixed = (place : ℕ) × LinkStands g place × (word s (place + 8) ≡ 0)
 
-        go : ¬ EarlierSwitch s E at g → (t : Bool) → ltb g l ≡ t → (l ≤ g) ⊎ ((place : ℕ) × LinkStands g place × (word s (place + 8) ≡ 0))
+        fixed : ¬ EarlierSwitch s E at g → g < l → (place : ℕ) → LinkStands g place → (t : Bool)
+            → eqb (word s (place + 8)) 0 ≡ t → Fixed
+        fixed no-switch lt place st true t = (place, st, eqb-true (word s (place + 8)) 0 t)
+        fixed no-switch lt place st false t = absurd (no-switch (earlier-number g .1 (lt, unfixed)))
+          where
+            unfixed : (p : ℕ) → LinkStands g p → ¬ (word s (p + 8) ≡ 0)
+            unfixed p st′ z =
+                let same = lead-once s (link-lead g place st) (link-lead g p st′) in
+                eqb-false (word s (place + 8)) 0 t (ap (λ (x : ℕ). word s (x + 8)) same ∙ z)
+
+        go : ¬ EarlierSwitch s E at g → (t : Bool) → ltb g l ≡ t → (l ≤ g) ⊎ Fixed
         go no-switch true t =
             let lt = ltb-true g l t in
             let r = lower g lt in
-            inr (fixed (r .0) (r .1) no-switch lt (eqb (word s (r .0 + 8)) 0) refl)
+            inr (fixed no-switch lt (r .0) (r .1) (eqb (word s (r .0 + 8)) 0) refl)
         go no-switch false t = inl (ltb-false g l t)
 
-        back : EarlierSwitch s E at g → (l ≤ g) ⊎ ((place : ℕ) × LinkStands g place × (word s (place + 8) ≡ 0)) → ⊥
+        back : EarlierSwitch s E at g → (l ≤ g) ⊎ Fixed → ⊥
         back x (inl h) = omega (arith, h, earlier-number g .0 x .0)
         back x (inr (place, st, z)) = earlier-number g .0 x .1 place st z

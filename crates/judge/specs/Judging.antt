@@ -26,7 +26,8 @@ use Rattle.judge_line.specs.MarkLines.{markLine}
 
 -- ---- what the paper asks for
 
--- an accepted submitted plan: s is a network file that states n, with a plan file of the steps q directly behind it, and keeps rules 1 to 18 and 20
+-- an accepted submitted plan: s is a network file that states n, with a plan file of the steps q directly behind it, and
+-- keeps rules 1 to 18 and 20
 pub record AcceptedPlan (s : List ℕ) (n : Network) (q : List Step) : Type 0 where
   pub plan : Plan
   pub files : BothOf s n plan

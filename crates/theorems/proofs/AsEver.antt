@@ -1,5 +1,6 @@
--- What an input always got: the readings where only some kinds are known and where all are give the same network, so the same reply; from the laws
--- of reading, and where each record is of a known kind, since a refusal's place is where a record stands.
+-- What an input always got: the readings where only some kinds are known and where all are give the same network, so the
+-- same reply; from the laws of reading, and where each record is of a known kind, since a refusal's place is where a
+-- record stands.
 -- Assumes nothing.
 use mathlib.Core.Path.{_≡_, sym, ap}
 use mathlib.Core.Bool.{Bool, true}
@@ -46,10 +47,12 @@ module _ (known : ℕ → Bool) (s : List ℕ) (all : (n at : ℕ) → Lead s n 
   known-there o = placed-known Led known s o (λ at led. all (led .0) at (led .1))
 
   pub library-of-kinds : outcome s ≡ outcomeBy known s
-  library-of-kinds = library-as-ever known s (known-there (networkInputBy known s) (network-input-placed Led known s on (0, none)))
+  library-of-kinds =
+      library-as-ever known s (known-there (networkInputBy known s) (network-input-placed Led known s on (0, none)))
 
   pub planner-of-kinds : planText s ≡ planTextBy known s
   planner-of-kinds = ap linesOf library-of-kinds
 
   pub judge-of-kinds : markText s ≡ markTextBy known s
-  judge-of-kinds = judge-as-ever known s (known-there (bothInputBy known s) (both-input-placed Led known s on (0, none)))
+  judge-of-kinds =
+      judge-as-ever known s (known-there (bothInputBy known s) (both-input-placed Led known s on (0, none)))

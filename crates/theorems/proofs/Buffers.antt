@@ -179,7 +179,8 @@ module _ (s : List ℕ) (bytes : Bytes s) (before : List ℕ) where
       (sym is, sym (refusal-unwritten f is))
 
   -- a refusal by any rule but 19 is the first rule broken
-  pub library-refused : (f : Refusal) → ¬ (f .rule ≡ BufferTooShort) → (replyFor (outcome s) before ≡ Reply·.Refused f) ↔ FirstRule s f
+  pub library-refused : (f : Refusal) → ¬ (f .rule ≡ BufferTooShort)
+      → (replyFor (outcome s) before ≡ Reply·.Refused f) ↔ FirstRule s f
   library-refused f other = (
     λ e. go _ _ (library-replies s bytes before) e,
     λ b. sym (library-once (Reply·.Refused f) before (Replies.LibraryReply.refused b) .0),

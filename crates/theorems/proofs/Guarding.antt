@@ -1,5 +1,5 @@
--- Rules 8 and 20 at a record of kind 8 in a whole input: where one is the first broken, the records before stand; by the first break
--- of a run of records, and since kind 8 may come among links alone. And where each link's record stands.
+-- Rules 8 and 20 at a record of kind 8 in a whole input: where one is the first broken, the records before stand; by the
+-- first break of a run of records, and since kind 8 may come among links alone. And where each link's record stands.
 -- Assumes nothing.
 use mathlib.Core.Path.{_≡_, refl, sym, ap, subst}
 use mathlib.Core.Bool.{Bool, true, false}
@@ -51,24 +51,29 @@ module _ (s : List ℕ) (E K : ℕ) where
       record { front = stage ∷ r .front; stage = r .stage; rest = r .rest; whole = ap (λ (xs : List Stage). stage ∷ xs) (r .whole); before = next k (r .before); first = r .first }
 
   -- kind 8 may come among links alone
-  eight-among-links : (at : ℕ) (stage : Stage) (r : Rule) → kindField s at ≡ 8 → Sooner KindOutOfPlace r → BreaksFirst s E K at stage r
-      → (¬ (stage ≡ Links)) → ⊥
-  eight-among-links at stage r eight after b other = b .sooner KindOutOfPlace after (λ m. other (link-stage m (inr eight)))
+  eight-among-links : (at : ℕ) (stage : Stage) (r : Rule) → kindField s at ≡ 8 → Sooner KindOutOfPlace r
+      → BreaksFirst s E K at stage r → (¬ (stage ≡ Links)) → ⊥
+  eight-among-links at stage r eight after b other =
+      b .sooner KindOutOfPlace after (λ m. other (link-stage m (inr eight)))
 
   -- so no record of a plan file that breaks a rule behind rule 2 is of kind 8
   steps-unguarded : (n : ℕ) {at : ℕ} {f : Refusal} → kindField s (f .place) ≡ 8 → Sooner KindOutOfPlace (f .rule)
       → FirstBreak s E K (replicate n Steps ++ (PlanEnd ∷ [])) at f → ⊥
-  steps-unguarded zero eight after (here b) = eight-among-links _ PlanEnd _ eight after b (λ q. let z : _≡_ {A = ℕ} 0 1 = cc in omega arith)
-  steps-unguarded (suc n) eight after (here b) = eight-among-links _ Steps _ eight after b (λ q. let z : _≡_ {A = ℕ} 0 1 = cc in omega arith)
+  steps-unguarded zero eight after (here b) =
+      eight-among-links _ PlanEnd _ eight after b (λ q. let z : _≡_ {A = ℕ} 0 1 = cc in omega arith)
+  steps-unguarded (suc n) eight after (here b) =
+      eight-among-links _ Steps _ eight after b (λ q. let z : _≡_ {A = ℕ} 0 1 = cc in omega arith)
   steps-unguarded (suc n) eight after (later k x) = steps-unguarded n eight after x
 
   plan-unguarded : (n : ℕ) {at : ℕ} {f : Refusal} → kindField s (f .place) ≡ 8 → Sooner KindOutOfPlace (f .rule)
       → FirstBreak s E K (planStages n) at f → ⊥
-  plan-unguarded n eight after (here b) = eight-among-links _ PlanHead _ eight after b (λ q. let z : _≡_ {A = ℕ} 0 1 = cc in omega arith)
+  plan-unguarded n eight after (here b) =
+      eight-among-links _ PlanHead _ eight after b (λ q. let z : _≡_ {A = ℕ} 0 1 = cc in omega arith)
   plan-unguarded n eight after (later k x) = steps-unguarded n eight after x
 
   -- rule 20 speaks of kind 8 alone
-  guard-eight : {stages : List Stage} {at : ℕ} {f : Refusal} → f .rule ≡ BadGuard → FirstBreak s E K stages at f → kindField s (f .place) ≡ 8
+  guard-eight : {stages : List Stage} {at : ℕ} {f : Refusal} → f .rule ≡ BadGuard → FirstBreak s E K stages at f
+      → kindField s (f .place) ≡ 8
   guard-eight {f = f} e x =
       let r = break-at x in
       subst (BreaksRule s E K (f .place) (r .stage)) e (r .first .broken) .0
@@ -96,7 +101,8 @@ among : {A : Type 0} (r : Rule) → 13 ≤ ruleNumber r → ruleNumber r ≤ 18 
 among r low high (inl h) = absurd (omega arith)
 among r low high (inr h) = absurd (omega arith)
 
-answered-number : (net : Net) (f : Refusal) → Answered net (Refused f) → (13 ≤ ruleNumber (f .rule)) × (ruleNumber (f .rule) ≤ 18)
+answered-number : (net : Net) (f : Refusal) → Answered net (Refused f)
+    → (13 ≤ ruleNumber (f .rule)) × (ruleNumber (f .rule) ≤ 18)
 answered-number net f h = go _ h refl
   where
     held : Answer → ℕ
@@ -116,7 +122,8 @@ module _ (s : List ℕ) where
   first-broken : (f : Refusal) → Outside (f .rule) → FirstRule s f → NetworkBreaks s f
   first-broken f out (Reading.FirstRule.in-bytes (in-file b)) = b
   first-broken _ out (Reading.FirstRule.in-bytes (behind _ _)) = among ByteAfterEnd (omega arith) (omega arith) out
-  first-broken f out (Reading.FirstRule.in-network n _ h) = let a = answered-number _ f h in among (f .rule) (a .0) (a .1) out
+  first-broken f out (Reading.FirstRule.in-network n _ h) =
+      let a = answered-number _ f h in among (f .rule) (a .0) (a .1) out
 
   first-broken-both : (f : Refusal) → Outside (f .rule) → Sooner KindOutOfPlace (f .rule)
       → ((stages : List Stage) (at : ℕ) → FirstBreak s (word s 4) (word s 6) stages at f → kindField s (f .place) ≡ 8)
@@ -124,8 +131,10 @@ module _ (s : List ℕ) where
   first-broken-both f out after eight (Judging.FirstRuleBoth.in-bytes (in-network b)) = b
   first-broken-both f out after eight (Judging.FirstRuleBoth.in-bytes (in-plan {at = at} _ b)) =
       absurd (plan-unguarded s (word s 4) (word s 6) (word s (at + 4)) (eight _ _ b) after b)
-  first-broken-both _ out after eight (Judging.FirstRuleBoth.in-bytes (behind-plan _ _ _)) = among ByteAfterEnd (omega arith) (omega arith) out
-  first-broken-both f out after eight (Judging.FirstRuleBoth.in-network n p _ h) = let a = answered-number _ f h in among (f .rule) (a .0) (a .1) out
+  first-broken-both _ out after eight (Judging.FirstRuleBoth.in-bytes (behind-plan _ _ _)) =
+      among ByteAfterEnd (omega arith) (omega arith) out
+  first-broken-both f out after eight (Judging.FirstRuleBoth.in-network n p _ h) =
+      let a = answered-number _ f h in among (f .rule) (a .0) (a .1) out
 
   -- ---- a rule is the first broken, and where
 
@@ -134,12 +143,21 @@ module _ (s : List ℕ) where
   broken-at f r e b =
       let x = break-at s (word s 4) (word s 6) b in
       let first = subst (BreaksFirst s (word s 4) (word s 6) (f .place) (x .stage)) e (x .first) in
-      (record { front = x .front; stage = x .stage; rest = x .rest; whole = x .whole; before = x .before; sooner = first .sooner }, first .broken)
+      let due : StandsTo s (f .place) r = record {
+        front = x .front;
+        stage = x .stage;
+        rest = x .rest;
+        whole = x .whole;
+        before = x .before;
+        sooner = first .sooner;
+      } in
+      (due, first .broken)
 
-  breaks-at : (place : ℕ) (r : Rule) (due : StandsTo s place r) → BreaksRule s (word s 4) (word s 6) place (due .stage) r
-      → NetworkBreaks s (record { rule = r; place = place })
+  breaks-at : (place : ℕ) (r : Rule) (due : StandsTo s place r)
+      → BreaksRule s (word s 4) (word s 6) place (due .stage) r → NetworkBreaks s (record { rule = r; place = place })
   breaks-at place r due broken =
-      subst (λ (xs : List Stage). FirstBreak s (word s 4) (word s 6) xs 0 (record { rule = r; place = place })) (sym (due .whole))
+      subst (λ (xs : List Stage). FirstBreak s (word s 4) (word s 6) xs 0 (record { rule = r; place = place }))
+      (sym (due .whole))
       (break-behind s (word s 4) (word s 6) (due .before) (here (record { broken = broken; sooner = due .sooner })))
 
   module _ (place : ℕ) where
@@ -148,18 +166,24 @@ module _ (s : List ℕ) where
     bad-guard = record { rule = BadGuard; place = place }
 
     guard-broken : NetworkBreaks s bad-guard → GuardRefused s place
-    guard-broken b = let x = broken-at bad-guard BadGuard refl b in record { due = x .0; kind = x .1 .0; guard = x .1 .1 }
+    guard-broken b =
+        let x = broken-at bad-guard BadGuard refl b in
+        record { due = x .0; kind = x .1 .0; guard = x .1 .1 }
 
     pub guard-breaks : GuardRefused s place → NetworkBreaks s bad-guard
     guard-breaks g = breaks-at place BadGuard (g .due) (g .kind, g .guard)
 
     pub first-guard : FirstRule s bad-guard ↔ GuardRefused s place
-    first-guard = (λ x. guard-broken (first-broken bad-guard (inr (omega arith)) x), λ g. Reading.FirstRule.in-bytes (in-file (guard-breaks g)))
+    first-guard = (
+      λ x. guard-broken (first-broken bad-guard (inr (omega arith)) x),
+      λ g. Reading.FirstRule.in-bytes (in-file (guard-breaks g)),
+    )
 
     pub first-guard-both : FirstRuleBoth s bad-guard ↔ GuardRefused s place
     unfolding position
     first-guard-both = (
-      λ x. guard-broken (first-broken-both bad-guard (inr (omega arith)) (omega arith) (λ _ _ b. guard-eight s (word s 4) (word s 6) refl b) x),
+      λ x. guard-broken (first-broken-both bad-guard (inr (omega arith)) (omega arith)
+          (λ _ _ b. guard-eight s (word s 4) (word s 6) refl b) x),
       λ g. Judging.FirstRuleBoth.in-bytes (in-network (guard-breaks g)),
     )
 
@@ -170,10 +194,13 @@ module _ (s : List ℕ) where
     form-at : kindField s place ≡ 8 → NetworkBreaks s unknown-form → FormRefused s place
     form-at eight b =
         let x = broken-at unknown-form UnknownForm refl b in
-        record { due = x .0; kind = eight; form = form-broken s (word s 4) (word s 6) place (x .0 .stage) eight .0 (x .1) }
+        let form = form-broken s (word s 4) (word s 6) place (x .0 .stage) eight .0 (x .1) in
+        record { due = x .0; kind = eight; form = form }
 
     form-breaks : FormRefused s place → NetworkBreaks s unknown-form
-    form-breaks g = breaks-at place UnknownForm (g .due) (form-broken s (word s 4) (word s 6) place (g .due .stage) (g .kind) .1 (g .form))
+    form-breaks g =
+        breaks-at place UnknownForm (g .due)
+        (form-broken s (word s 4) (word s 6) place (g .due .stage) (g .kind) .1 (g .form))
 
     pub first-form : (FirstRule s unknown-form × (kindField s place ≡ 8)) ↔ FormRefused s place
     first-form = (

@@ -126,13 +126,15 @@ judge-decided s = ap markLine (mark-decided s)
 -- ---- "A file of kind 2 records gets the plan and marks it always got,": what a reader gives that knows the kinds of document 01 alone, refusals included, but
 -- where that refuses a record of a later kind by rule 2
 
--- a record of a kind of document 01 is found and refused as ever, one of any other refused by rule 2 where four bytes stand there
+-- a record of a kind of document 01 is found and refused as ever, one of any other is refused by rule 2 where four bytes
+-- stand there
 pub known-record : (s : List ℕ) (seen : Seen) (at : ℕ) (stage : Stage) → documentOne (kindField s at) ≡ true → dueBy documentOne s seen at stage ≡ dueAt s seen at stage
 known-record = Known.known-record documentOne
 
-pub unknown-record : (s : List ℕ) (seen : Seen) (at : ℕ) (stage : Stage) → documentOne (kindField s at) ≡ false → at + 4 ≤ length s
-    → dueBy documentOne s seen at stage ≡ Found·.Refused (record { rule = KindOutOfPlace; place = at })
-unknown-record s seen at stage h four = Known.unknown-record documentOne s seen at stage h (le-ltb (length s - at) 4 (omega arith))
+pub unknown-record : (s : List ℕ) (seen : Seen) (at : ℕ) (stage : Stage) → documentOne (kindField s at) ≡ false
+    → at + 4 ≤ length s → dueBy documentOne s seen at stage ≡ Found·.Refused (record { rule = KindOutOfPlace; place = at })
+unknown-record s seen at stage h four =
+    Known.unknown-record documentOne s seen at stage h (le-ltb (length s - at) 4 (omega arith))
 
 module _ (s : List ℕ) where
   pub library-as-ever : ((place : ℕ) → networkInputBy documentOne s ≡ refused (record { rule = KindOutOfPlace; place = place }) → documentOne (kindField s place) ≡ true)

@@ -10,6 +10,7 @@ use native.Mathlib.Omega.{arith}
 use lib.ListN.{length, getD, replicate}
 use borrow.Author.Tests.{le-ltb, ne-eqb}
 use Rattle.network.specs.declared.Network.{Network}
+use Rattle.network.specs.declared.refusal.Refusal.{Refusal}
 use Rattle.network.specs.declared.refusal.Rule.the-variants.{KindOutOfPlace, WrongLength, UnknownForm, UnsuitedCost, TooManySteps, BadGuard}
 use Rattle.network.specs.Networks.{noGuard}
 use Rattle.network.specs.Accepted.{WellFormed}
@@ -100,16 +101,19 @@ pub guard-earlier : (s : List ℕ) → Bytes s → (n : Network) → AcceptedNet
     → ¬ (getD (n .form) l 0 ≡ 0) × ((getD (n .guard) l 0 < l) × ¬ (getD (n .form) (getD (n .guard) l 0) 0 ≡ 0))
 guard-earlier s bytes n a l k has = let g = file-formed s bytes n (a .file) .guarded l k has in (g .switch, (g .earlier, g .guards))
 
--- its place in the file tells which switches are earlier: those of a lower number that are not fixed; so rule 20 is broken where the guard's number is not below the link's own,
--- or is that of a fixed link
-module _ (s : List ℕ) (E K l at : ℕ) (stand : Stand s E K ((Head ∷ replicate E Elements) ++ replicate l Links) 0 at) where
+-- an earlier switch is one of a lower number that is not fixed; so rule 20 is broken where the guard's number is not below
+-- the link's own, or is that of a fixed link. The record of link g stands at a place:
+abbrev LinkStands : (s : List ℕ) (E K g place : ℕ) → Type 0
+LinkStands s E K g place = Stand s E K ((Head ∷ replicate E Elements) ++ replicate g Links) 0 place
+
+module _ (s : List ℕ) (E K l at : ℕ) (stand : LinkStands s E K l at) where
   pub earlier-switch : (g : ℕ) → EarlierSwitch s E at g
-      ↔ ((g < l) × ((place : ℕ) → Stand s E K ((Head ∷ replicate E Elements) ++ replicate g Links) 0 place → ¬ (word s (place + 8) ≡ 0)))
+      ↔ ((g < l) × ((place : ℕ) → LinkStands s E K g place → ¬ (word s (place + 8) ≡ 0)))
   earlier-switch = earlier-number s E K l at stand
 
   pub guard-refused : (stage : Stage) → kindField s at ≡ 8 → BreaksRule s E K at stage BadGuard
       ↔ ((l ≤ word s (at + 12))
-      ⊎ ((place : ℕ) × Stand s E K ((Head ∷ replicate E Elements) ++ replicate (word s (at + 12)) Links) 0 place × (word s (place + 8) ≡ 0)))
+      ⊎ ((place : ℕ) × LinkStands s E K (word s (at + 12)) place × (word s (place + 8) ≡ 0)))
   guard-refused = guard-number s E K l at stand
 
 -- ---- "A plan's cost gains twice the guard's own cost, once for each guard however many of its switches are operated."
@@ -125,18 +129,21 @@ pub one-charge : (net : Net) (q : List Step) (l : ℕ) → l < net .grid .K → 
 one-charge net q l k operates has same =
     cost-said net q _ .1 (sym (Prices.one-charge net q l (net .guard l) k (operated-in q l operates) refl has (λ m b o. same m b (operated-out q m o))))
 
--- of several guards each has its charge: one more step of a switch whose guard is paid for adds its own cost alone, and one of a switch whose guard is not twice the guard's cost
--- too
-module _ (net : Net) (q : List Step) (s : Step) (inside : s .link < net .grid .K) (cost : ℕ) (costs : Costs net q cost) where
+-- of several guards each has its charge: one more step of a switch whose guard is paid for adds its own cost alone, one of
+-- a switch whose guard is not adds twice the guard's cost too
+module _ (net : Net) (q : List Step) (s : Step) (inside : s .link < net .grid .K) (cost : ℕ) (paid : Costs net q cost) where
+  so-far : cost ≡ costOf net q
+  so-far = cost-said net q cost .0 paid
+
   pub paid-again : PaidFor net q (net .guard (s .link)) → Costs net (q ++ (s ∷ [])) (cost + net .cost (s .link))
-  paid-again p = cost-said net _ _ .1 (omega (arith, cost-said net q cost .0 costs, Behind.cost-paid net q s inside p))
+  paid-again p = cost-said net _ _ .1 (omega (arith, so-far, Behind.cost-paid net q s inside p))
 
   pub paid-first : HasGuard net (s .link) → ¬ PaidFor net q (net .guard (s .link))
       → Costs net (q ++ (s ∷ [])) (cost + net .cost (s .link) + 2 * net .cost (net .guard (s .link)))
-  paid-first has unpaid = cost-said net _ _ .1 (omega (arith, cost-said net q cost .0 costs, Behind.cost-new net q s inside has unpaid))
+  paid-first has unpaid = cost-said net _ _ .1 (omega (arith, so-far, Behind.cost-new net q s inside has unpaid))
 
   pub free-step : ¬ HasGuard net (s .link) → Costs net (q ++ (s ∷ [])) (cost + net .cost (s .link))
-  free-step free = cost-said net _ _ .1 (omega (arith, cost-said net q cost .0 costs, Behind.cost-free net q s inside free))
+  free-step free = cost-said net _ _ .1 (omega (arith, so-far, Behind.cost-free net q s inside free))
 
 -- ---- "These openings aren't steps.": guards make no plan valid or invalid
 
@@ -202,17 +209,20 @@ form-refused s E K at stage eight = form-broken s E K at stage eight
 
 -- the printed reply, and the library's, where 8 is the first rule broken, at a record of kind 8
 module _ (s : List ℕ) (bytes : Bytes s) (place : ℕ) where
-  pub planner-8 : ((planText s ≡ refusedLine (record { rule = UnknownForm; place = place })) × (kindField s place ≡ 8)) ↔ FormRefused s place
-  planner-8 = Iff·trans (Iff·and (Exactly.refused-printed s bytes (record { rule = UnknownForm; place = place })) Iff·rfl) (first-form s place)
+  abbrev refused-8 : Refusal
+  refused-8 = record { rule = UnknownForm; place = place }
 
-  pub judge-8 : ((markText s ≡ refusedLine (record { rule = UnknownForm; place = place })) × (kindField s place ≡ 8)) ↔ FormRefused s place
-  judge-8 = Iff·trans (Iff·and (Exactly.refused-marked s bytes (record { rule = UnknownForm; place = place })) Iff·rfl) (first-form-both s place)
+  pub planner-8 : ((planText s ≡ refusedLine refused-8) × (kindField s place ≡ 8)) ↔ FormRefused s place
+  planner-8 = Iff·trans (Iff·and (Exactly.refused-printed s bytes refused-8) Iff·rfl) (first-form s place)
+
+  pub judge-8 : ((markText s ≡ refusedLine refused-8) × (kindField s place ≡ 8)) ↔ FormRefused s place
+  judge-8 = Iff·trans (Iff·and (Exactly.refused-marked s bytes refused-8) Iff·rfl) (first-form-both s place)
 
   pub library-8 : (before : List ℕ)
-      → ((replyFor (outcome s) before ≡ Reply·.Refused (record { rule = UnknownForm; place = place })) × (kindField s place ≡ 8)) ↔ FormRefused s place
+      → ((replyFor (outcome s) before ≡ Reply·.Refused refused-8) × (kindField s place ≡ 8)) ↔ FormRefused s place
   library-8 before =
-      Iff·trans (Iff·and (Buffers.library-refused s bytes before (record { rule = UnknownForm; place = place }) (λ e. omega (arith, ap ruleNumber e))) Iff·rfl)
-      (first-form s place)
+      let library = Buffers.library-refused s bytes before refused-8 (λ e. omega (arith, ap ruleNumber e)) in
+      Iff·trans (Iff·and library Iff·rfl) (first-form s place)
 
 -- ---- "It refuses, after 9 in the same record and with the same place, with 20 a guard that isn't an earlier switch."
 
@@ -221,15 +231,19 @@ unfolding position
 after-9 = (guard-after-cost, omega arith)
 
 module _ (s : List ℕ) (bytes : Bytes s) (place : ℕ) where
-  pub planner-20 : (planText s ≡ refusedLine (record { rule = BadGuard; place = place })) ↔ GuardRefused s place
-  planner-20 = Iff·trans (Exactly.refused-printed s bytes (record { rule = BadGuard; place = place })) (first-guard s place)
+  abbrev refused-20 : Refusal
+  refused-20 = record { rule = BadGuard; place = place }
 
-  pub judge-20 : (markText s ≡ refusedLine (record { rule = BadGuard; place = place })) ↔ GuardRefused s place
-  judge-20 = Iff·trans (Exactly.refused-marked s bytes (record { rule = BadGuard; place = place })) (first-guard-both s place)
+  pub planner-20 : (planText s ≡ refusedLine refused-20) ↔ GuardRefused s place
+  planner-20 = Iff·trans (Exactly.refused-printed s bytes refused-20) (first-guard s place)
 
-  pub library-20 : (before : List ℕ) → (replyFor (outcome s) before ≡ Reply·.Refused (record { rule = BadGuard; place = place })) ↔ GuardRefused s place
+  pub judge-20 : (markText s ≡ refusedLine refused-20) ↔ GuardRefused s place
+  judge-20 = Iff·trans (Exactly.refused-marked s bytes refused-20) (first-guard-both s place)
+
+  pub library-20 : (before : List ℕ) → (replyFor (outcome s) before ≡ Reply·.Refused refused-20) ↔ GuardRefused s place
   library-20 before =
-      Iff·trans (Buffers.library-refused s bytes before (record { rule = BadGuard; place = place }) (λ e. omega (arith, ap ruleNumber e))) (first-guard s place)
+      let library = Buffers.library-refused s bytes before refused-20 (λ e. omega (arith, ap ruleNumber e)) in
+      Iff·trans library (first-guard s place)
 
 -- ---- "Where item 1 speaks of a file that passes rules 1 to 13, it must pass 20 as well.": what Request1 asks of files that are rewritten
 

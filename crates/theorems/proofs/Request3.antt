@@ -65,7 +65,8 @@ module _ (s : List ℕ) (bytes : Bytes s) (n : Network) (accepted : AcceptedNetw
   -- in any configuration of an accepted network the sums of `sums_after` are those over its first E elements
   pub sums-after-E : (c : Config) → FirstLoads (netOf n) c (n .elements) (sumsAfter (netOf n) c)
   unfolding sumsAfter netOf gridOf
-  sums-after-E c = Loads.first-loads (netOf n) (formed-net n (file-formed s bytes n (accepted .file))) c (n .elements) (omega arith)
+  sums-after-E c =
+      Loads.first-loads (netOf n) (formed-net n (file-formed s bytes n (accepted .file))) c (n .elements) (omega arith)
 
   -- of an accepted network, with lists that tell what is live in a configuration and what is restorable
   module _ (c : Config) (live restorable : List ℕ) (live-long : n .elements ≤ length live) (restorable-long : n .elements ≤ length restorable)

@@ -1,5 +1,5 @@
--- Words of the demands and requests that the theorems use: what is printed, also where only some kinds are known; where a record of
--- kind 8 is refused; how a text begins; and what a plan does on its way.
+-- Words of the demands and requests that the theorems use: what is printed, also where only some kinds are known; where a
+-- record of kind 8 is refused; how a text begins; and what a plan does on its way.
 -- Assumes nothing.
 use mathlib.Core.Path.{_≡_}
 use mathlib.Core.Bool.{Bool, true, not, _&&_}
@@ -52,7 +52,8 @@ documentOne kind = itemOne kind && not (eqb kind 7)
 abbrev pub Without : ℕ → List ℕ → Type 0
 Without kind s = (n at : ℕ) → Lead s n 0 at → ¬ (kindField s at ≡ kind)
 
--- the records of the network file stand up to this place, and the one there breaks no rule that is checked sooner than r
+-- the records of the network file stand up to this place, and the one there breaks no rule that is checked sooner
+-- than r
 pub record StandsTo (s : List ℕ) (place : ℕ) (r : Rule) : Type 0 where
   pub front : List Stage
   pub stage : Stage
@@ -67,8 +68,8 @@ pub record FormRefused (s : List ℕ) (place : ℕ) : Type 0 where
   pub kind : kindField s place ≡ 8
   pub form : (word s (place + 8) ≡ 0) ⊎ (2 < word s (place + 8))
 
--- "It refuses, after 9 in the same record and with the same place, with 20 a guard that isn't an earlier switch.": the record
--- there is of kind 8, and names a guard that is no earlier switch
+-- "It refuses, after 9 in the same record and with the same place, with 20 a guard that isn't an earlier switch.": the
+-- record there is of kind 8, and names a guard that is no earlier switch
 pub record GuardRefused (s : List ℕ) (place : ℕ) : Type 0 where
   pub due : StandsTo s place BadGuard
   pub kind : kindField s place ≡ 8

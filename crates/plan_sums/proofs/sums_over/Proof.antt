@@ -76,7 +76,8 @@ loop-again c =
             (λ w. fed-off load live restorable e (loop· .fed) _ (sums .fed-is) (omega arith) (omega arith))
             (c .before .before .if1 .came);
         dark-is = ⊎-elim
-            (λ w. dark-on load live restorable e (loop· .dark) _ (sums .dark-is) (omega arith) (omega arith) (omega arith))
+            (λ w. dark-on load live restorable e (loop· .dark) _ (sums .dark-is)
+            (omega arith) (omega arith) (omega arith))
             (⊎-elim
             (λ w. dark-live load live restorable e (loop· .dark) _ (sums .dark-is) (omega arith) (omega arith))
             (λ w. dark-off load live restorable e (loop· .dark) _ (sums .dark-is) (omega arith) (omega arith)))
@@ -100,7 +101,9 @@ returns : tie.Need-returns Inv-loop μ-loop
 returns c =
     let loop· = c .before .loop in
     let args· = c .before .before .args in
-    sums-at (at (args· .load .now)) (isIn (args· .live .now)) (isIn (args· .restorable .now)) (loop· .e) _ (omega arith) (loop· .inv .0 .fed-is) (loop· .inv .0 .dark-is) (loop· .inv .0 .lost-is)
+    let sums = loop· .inv .0 in
+    sums-at (at (args· .load .now)) (isIn (args· .live .now)) (isIn (args· .restorable .now)) (loop· .e) _
+    (omega arith) (sums .fed-is) (sums .dark-is) (sums .lost-is)
 
 pub sums-over-spec : {M : Type 1} → statement M
 sums-over-spec =
