@@ -1,7 +1,7 @@
 #!/usr/bin/env python3
 """rename.py FOLDER...: give the crates, proof files and definitions of a folder of Rattle files their present names.
 
-A folder is a repository (with crates/ and crates.txt), or one crate, as each prototype is. Files are changed in place; in a
+A folder is a repository (with crates/ and crates.txt), or one crate that stands alone. Files are changed in place; in a
 repository the folders of crates move too. Running it twice changes nothing the second time.
 
 For one crate, run at the repository's root, names that stand in another module by now are taken from there, where just one
@@ -198,7 +198,7 @@ def taken_anew(text, index):
     return re.sub(r"^((?:ghost )?)use Rattle·([a-z_]+)\.(specs|proofs)\.(\w+)\.\{([^}]*)\}(;?)$", line, text, flags=re.M)
 
 
-def prototype(folder):
+def lone_crate(folder):
     index = exported()
     named_crates = set()
     for top, _, files in os.walk(folder):
@@ -214,7 +214,7 @@ def prototype(folder):
 
 
 def listed(text):
-    """crates.txt, and the line of it that a prototype's README begins with."""
+    """crates.txt, and the line of it that a lone crate's README begins with."""
     def line(m):
         return re.sub(r"[a-z_]+", lambda n: CRATES.get(n[0], n[0]), m[0])
     return re.sub(r"^ *[a-z_]+:[a-z_ ]*$", line, text, flags=re.M)
@@ -225,7 +225,7 @@ def main():
         crates = os.path.join(folder, "crates")
         if not os.path.isdir(crates):
             crate_folder(folder, os.path.basename(os.path.normpath(folder)))
-            prototype(folder)
+            lone_crate(folder)
             readme = os.path.join(folder, "README.md")
             if os.path.exists(readme):
                 rewrite(readme, listed)

@@ -20,7 +20,7 @@ pub fn mark(input: &[u8]) -> Mark {
     }
 }
 
-/// Rules 1 to 13 over both files, then rules 14 to 18.
+/// Rules 1 to 13 and 20 over both files, then rules 14 to 18.
 fn read(input: &[u8]) -> Result<(Accepted, Submitted<'_>), Refusal> {
     let mut reader = Reader::new(input);
     let network = Network::read(&mut reader)?;

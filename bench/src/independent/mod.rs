@@ -43,7 +43,7 @@ pub fn mark_text(input: &[u8], out: &mut Vec<u8>) {
     text::mark(out, &mark(input));
 }
 
-/// A network file's network that keeps rules 1 to 13.
+/// A network file's network that keeps rules 1 to 13 and 20.
 fn read_alone(input: &[u8]) -> Result<Box<network::Network>, Refusal> {
     let mut reader = Reader::new(input);
     let network = network::Network::read(&mut reader)?;
@@ -57,7 +57,7 @@ pub fn start(input: &[u8]) -> Result<Start, Refusal> {
     Start::of(&network).map(|(start, _)| start)
 }
 
-/// A network file's network that keeps rules 1 to 18.
+/// A network file's network that keeps rules 1 to 18 and 20.
 pub fn accept(input: &[u8]) -> Result<Accepted, Refusal> {
     Accepted::from(read_alone(input)?)
 }

@@ -5,15 +5,15 @@ use mathlib.Core.Path.{_≡_, refl, sym, ap, _∙_}
 use mathlib.Core.Bool.{Bool, true, false, not, _&&_, _||_}
 use mathlib.Core.List.{List, [], _∷_, _++_}
 use lib.Dec.{eqb, ltb}
-use borrow.Author.Tests.{eqb-true, eq-eqb, ltb-true, lt-ltb}
+use borrow.Author.Tests.{eqb-true, eq-eqb, ltb-true, lt-ltb, le-ltb}
 use native.Mathlib.Omega.{arith}
 use Rattle.feeding.specs.Below.{gate, sumTo}
 use Rattle.feeding.specs.Networks.{Net}
 use Rattle.feeding.specs.Plans.{Step, operations}
 use Rattle.feeding.proofs.Below.{eqb-comm, same-test, or-left, or-right}
 use Rattle.feeding.proofs.Sums.{sumTo-ext, sumTo-add, sumTo-at}
-use Rattle.feeding.specs.Costs.{operated, guards?, guardCost, costOf, stepsCost}
-use Rattle.feeding.proofs.Guards.{guards-in, guards-out}
+use Rattle.feeding.specs.Costs.{HasGuard, PaidFor, operated, guards?, guardCost, costOf, stepsCost}
+use Rattle.feeding.proofs.Guards.{guards-in, guards-out, paid-in, paid-out}
 
 -- ---- two tests
 
@@ -108,3 +108,25 @@ module _ (net : Net) (q : List Step) (s : Step) (inside : s .link < net .grid .K
         steps-cost-behind net q s,
         guard-cost-more net (operated q) (operated (q ++ (s ∷ []))) (s .link) inside (λ m _. operated-behind q s m),
       )
+
+  -- its guard is paid for: the switch's own cost alone
+  pub cost-paid : PaidFor net q (net .guard (s .link)) → costOf net (q ++ (s ∷ [])) ≡ costOf net q + net .cost (s .link)
+  cost-paid p =
+      cost-behind
+      ∙ rw (lt-ltb (net .guard (s .link)) (net .grid .K) (p .link), paid-out net q (net .guard (s .link)) p)
+      (omega arith)
+
+  -- it has a guard that is not: twice the guard's cost too
+  pub cost-new : HasGuard net (s .link) → ¬ PaidFor net q (net .guard (s .link))
+      → costOf net (q ++ (s ∷ [])) ≡ costOf net q + net .cost (s .link) + 2 * net .cost (net .guard (s .link))
+  cost-new has unpaid =
+      cost-behind ∙ rw (lt-ltb (net .guard (s .link)) (net .grid .K) has, go (guards? net (operated q) _) refl)
+    where
+      go : (t : Bool) → guards? net (operated q) (net .guard (s .link)) ≡ t
+          → guards? net (operated q) (net .guard (s .link)) ≡ false
+      go true t = absurd (unpaid (paid-in net q (net .guard (s .link)) has t))
+      go false t = t
+
+  -- it has none
+  pub cost-free : ¬ HasGuard net (s .link) → costOf net (q ++ (s ∷ [])) ≡ costOf net q + net .cost (s .link)
+  cost-free free = cost-behind ∙ rw (le-ltb (net .guard (s .link)) (net .grid .K) (omega (arith, free))) (omega arith)

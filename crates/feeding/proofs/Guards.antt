@@ -117,12 +117,12 @@ module _ (net : Net) where
 
   -- ---- each guard of an operated switch is paid for once, and no other
 
-  paid-in : (q : List Step) (g : ℕ) → g < net .grid .K → guards? net (operated q) g ≡ true → PaidFor net q g
+  pub paid-in : (q : List Step) (g : ℕ) → g < net .grid .K → guards? net (operated q) g ≡ true → PaidFor net q g
   paid-in q g k h =
       let r = guards-out (operated q) g h in
       record { switch = r .0; below = r .1; operated = operated-out q (r .0) (r .2 .0); guards = r .2 .1; link = k }
 
-  paid-out : (q : List Step) (g : ℕ) → PaidFor net q g → guards? net (operated q) g ≡ true
+  pub paid-out : (q : List Step) (g : ℕ) → PaidFor net q g → guards? net (operated q) g ≡ true
   paid-out q g p = guards-in (operated q) (p .switch) g (p .below) (operated-in q (p .switch) (p .operated)) (p .guards)
 
   -- the guards that a list of steps pays for

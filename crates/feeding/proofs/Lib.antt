@@ -14,6 +14,7 @@ pub mod Labels
 pub mod Load
 pub mod Lows
 pub mod Opening
+pub mod OtherGuards
 pub mod Overloads
 pub mod Prices
 pub mod Printed

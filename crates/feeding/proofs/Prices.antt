@@ -73,7 +73,7 @@ module _ (net : Net) where
 pub pricing : (net : Net) → Pricing net (costOf net) (setCost net)
 pricing net = record { at-most = cost-at-most net; printed = cost-printed net }
 
--- ---- without guards, with one, and again
+-- ---- without guards, and with one
 
 module _ (net : Net) where
   -- a list that operates no guarded switch costs the sum of its steps' costs, and so does a set
@@ -91,17 +91,6 @@ module _ (net : Net) where
       → costOf net q ≡ stepsCost net q + 2 * net .cost g
   unfolding costOf
   one-charge q l g k d e b same = ap (λ x. stepsCost net q + x) (guard-cost-one net (operated q) l g k d e b same)
-
-  -- a step of a switch that later steps operate too pays for no guard again
-  pub step-again : (s : Step) (q : List Step) → operated q (s .link) ≡ true → costOf net (s ∷ q) ≡ net .cost (s .link) + costOf net q
-  unfolding costOf stepsCost
-  step-again s q h = omega (arith, guard-cost-ext net (operated (s ∷ q)) (operated q) (λ l _. go l (eqb (s .link) l) refl))
-    where
-      go : (l : ℕ) (t : Bool) → eqb (s .link) l ≡ t → operated (s ∷ q) l ≡ operated q l
-      go l true t =
-          let e : s .link ≡ l = eqb-true (s .link) l t in
-          ap (operated (s ∷ q)) (sym e) ∙ operated-first s q ∙ sym h ∙ ap (operated q) e
-      go l false t = operated-rest s q l (eqb-false (s .link) l t)
 
   -- no step costs less than nothing: one step more is no cheaper
   pub step-dearer : (s : Step) (q : List Step) → costOf net q ≤ costOf net (s ∷ q)

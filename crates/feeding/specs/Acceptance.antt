@@ -1,4 +1,4 @@
--- Document 01, refusals 14 to 18: what a network that passed rules 1 to 13 is answered.
+-- Document 01, refusals 14 to 18: what a network that passed rules 1 to 13 and 20 is answered.
 -- Assumes nothing.
 use mathlib.Core.Bool.{true, false}
 use Prim.Native.Nat.{ℕ, _<_, _≤_}

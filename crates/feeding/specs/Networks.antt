@@ -47,6 +47,17 @@ withCapacity g capacity =
       endB = g .endB;
     }
 
+-- the network with other guards
+abbrev pub withGuards : Net → (ℕ → ℕ) → Net
+withGuards net guard =
+    record {
+      grid = net .grid;
+      fixed = net .fixed;
+      startClosed = net .startClosed;
+      cost = net .cost;
+      guard = guard;
+    }
+
 -- the entry of a list at a number
 abbrev pub at : List ℕ → ℕ → ℕ
 at xs i = getD xs i 0

@@ -1,4 +1,5 @@
--- Rules 1 to 18 from the bytes to the paper's terms: each way of reading and of judging ends in one case of `Admission`.
+-- Rules 1 to 18 and 20 from the bytes to the paper's terms: each way of reading and of judging ends in one case of
+-- `Admission`.
 -- Assumes nothing.
 use mathlib.Core.Path.{_≡_, refl, sym, ap, _∙_, subst}
 use mathlib.Core.List.{List}

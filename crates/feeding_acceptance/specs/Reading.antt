@@ -1,4 +1,5 @@
--- Document 01, rules 1 to 18 on the planner's input: which network it states, or which rule it breaks first; and what is handed out with the answer.
+-- Document 01, rules 1 to 18, and document 02's rule 20, on the planner's input: which network it states, or which rule
+-- it breaks first; and what is handed out with the answer.
 -- Assumes nothing.
 use mathlib.Core.List.{List}
 use Prim.Native.Nat.{ℕ, _<_}
@@ -22,12 +23,13 @@ use Rattle.feeding_acceptance.specs.declared.Admitted.{Admitted}
 abbrev pub Bytes : List ℕ → Type 0
 Bytes s = (i : ℕ) → getD s i 0 < 256
 
--- an accepted network: s is a network file that states n, and keeps rules 1 to 18
+-- an accepted network: s is a network file that states n, and keeps rules 1 to 18 and 20
 pub record AcceptedNetwork (s : List ℕ) (n : Network) : Type 0 where
   pub file : NetworkOf s n
   pub kept : Answered (netOf n) Accepted
 
--- "the first rule of document 01 that it breaks, with number and place": of 1 to 13 in the bytes, then of 14 to 18
+-- "the first rule of document 01 that it breaks, with number and place": of 1 to 13 and 20 in the bytes, then of 14
+-- to 18
 pub data FirstRule (s : List ℕ) : Refusal → Type 0 where
   in-bytes : {f : Refusal} → FirstBroken s f → FirstRule s f
   in-network : {f : Refusal} (n : Network) → NetworkOf s n → Answered (netOf n) (Refused f) → FirstRule s f

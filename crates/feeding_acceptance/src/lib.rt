@@ -1,4 +1,5 @@
-// Rules 14 to 18: a network that passed rules 1 to 13 is refused by the first that it breaks, or accepted, with all that is known of it at the start.
+// Rules 14 to 18: a network that passed rules 1 to 13 and 20 is refused by the first that it breaks, or accepted, with
+// all that is known of it at the start.
 use feeding_ends::own_ends;
 use feeding_parts::parts_of;
 use feeding_safety::check;
@@ -82,7 +83,7 @@ pub fn accept(net: Network) -> Admitted
     }
 }
 
-// The planner's input: rules 1 to 13, then 14 to 18.
+// The planner's input: rules 1 to 13 and 20, then 14 to 18.
 pub fn read_accepted(s: &[u8]) -> Admitted
     ensures { λ r. ⌜ r ≡ acceptedRead (networkRead (networkInput (now (s .entry)))) ⌝ }
     ensures { λ r. ⌜ Admission (now (s .entry)) (r .answer) (r .start .net) ⌝ }

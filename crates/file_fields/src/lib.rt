@@ -18,15 +18,6 @@ pub struct Seen {
     pub form: [u16; 96],
 }
 
-impl Seen {
-    // What stands before a record whose rules ask nothing of it: a head, an element, an end.
-    pub const NOTHING: Seen = Seen {
-        elements: 0,
-        links: 0,
-        form: [0; 96],
-    };
-}
-
 // The number of two bytes at an offset, low byte first.
 pub fn word_at(s: &[u8], at: usize) -> u16
     requires { ⌜ at + 1 < length (now s) ⌝ }

@@ -1,13 +1,18 @@
 -- Where not every kind is known, a file is read as ever but for a refusal by rule 2 at a record of an unknown kind: one record by its law, a run by induction, and step by step.
 -- Assumes nothing.
-use mathlib.Core.Path.{_≡_, refl, sym, ap, _∙_}
+use mathlib.Core.Path.{_≡_, refl, sym, ap, subst, _∙_}
 use mathlib.Core.Bool.{Bool, true, false}
 use mathlib.Core.List.{List}
 use Prim.Native.Nat.{ℕ, zero, suc, _+_}
 use native.Mathlib.Omega.{arith}
+use lib.Dec.{ltb}
+use lib.ListN.{length}
 use Rattle.network.specs.declared.Network.{Network}
 use Rattle.network.specs.Networks.{emptyNetwork}
-use Rattle.network.specs.declared.refusal.Rule.the-variants.{KindOutOfPlace}
+use Rattle.network.specs.declared.refusal.Rule.the-variants.{KindOutOfPlace, ByteAfterEnd}
+use Rattle.network.specs.declared.refusal.Verdict.{Verdict}
+use Rattle.network.specs.declared.refusal.Verdict.the-variants.{Kept, Broken}
+use Rattle.network.specs.Refusals.{pick, firstBroken}
 use Rattle.file_stages.specs.declared.Stage.{Stage}
 use Rattle.file_stages.specs.declared.Stage.the-variants.{Head}
 use Rattle.file_stages.specs.Stages.{afterLast}
@@ -16,7 +21,7 @@ use Rattle.file_fields.specs.Fields.{word}
 use Rattle.file_fields.specs.Views.{nothingSeen, networkSeen}
 use Rattle.file_records.specs.declared.Found.{Found}
 use Rattle.file_records.specs.declared.Found.the-variants.{Record, Refused}
-use Rattle.file_records.specs.Records.{kindField, dueBy, dueAt}
+use Rattle.file_records.specs.Records.{kindField, lengthField, recordRulesBy, foundBy, dueBy, dueAt}
 use Rattle.file_records.proofs.Known.{due-known}
 use Rattle.file_network.specs.Runs.{Reading, refused, reached, readOn, onFound, recordsBy, records, always, asIs}
 use Rattle.file_network.specs.NetworkFiles.{withElement, withLink, endOnBy, endOn, linksOnBy, linksOn, elementsOnBy, elementsOn, networkFileBy, networkFile}
@@ -103,3 +108,62 @@ module _ (known : ℕ → Bool) (s : List ℕ) where
   unfolding networkInputBy
   network-input-known =
       then-known known s (networkFileBy known s) (networkFile s) (closed s) (closed s) network-known (λ at stage n there. refl)
+
+-- ---- where every record that stands there is of a known kind: P is kept from one record to the next
+
+-- reading is refused at such a place, or has come to one
+abbrev pub Placed : {A : Type 0} → (ℕ → Type 0) → Reading A → Type 0
+Placed P (refused f) = P (f .place)
+Placed P (reached at stage a) = P at
+
+pub then-placed : {A B : Type 0} (P : ℕ → Type 0) (o : Reading A) (f : ℕ → Stage → A → Reading B) → Placed P o
+    → ((at : ℕ) (stage : Stage) (a : A) → P at → Placed P (f at stage a)) → Placed P (readOn o f)
+then-placed P (refused r) f h then = h
+then-placed P (reached at stage a) f h then = then at stage a h
+
+pub closed-placed : {A : Type 0} (P : ℕ → Type 0) (s : List ℕ) (at : ℕ) (stage : Stage) (a : A) → P at
+    → Placed P (closed s at stage a)
+closed-placed {A} P s at stage a h = go (ltb at (length s))
+  where
+    go : (t : Bool)
+        → Placed {A = A} P (pick t (refused (record { rule = ByteAfterEnd; place = at })) (reached at stage a))
+    go true = h
+    go false = h
+
+pub placed-known : {A : Type 0} (P : ℕ → Type 0) (known : ℕ → Bool) (s : List ℕ) (o : Reading A)
+    → ((at : ℕ) → P at → known (kindField s at) ≡ true) → Placed P o → KnownThere known s o
+placed-known P known s o all h place e = all place (subst (Placed P) e h)
+
+module _ (P : ℕ → Type 0) (known : ℕ → Bool) (s : List ℕ) (on : (at : ℕ) → P at → P (at + lengthField s at)) where
+  pub records-placed : {A : Type 0} (seen : A → Seen) (into : ℕ → A → A) (n at : ℕ) (stage : Stage) (a : A) → P at
+      → Placed P (recordsBy known s seen into n at stage a)
+  unfolding recordsBy dueBy
+  records-placed seen into zero at stage a h = h
+  records-placed {A} seen into (suc n) at stage a h =
+      go (firstBroken (recordRulesBy known s (seen a) at stage)) (records-placed seen into n)
+    where
+      go : (v : Verdict)
+          → ((at′ : ℕ) (stage′ : Stage) (a′ : A) → P at′ → Placed P (recordsBy known s seen into n at′ stage′ a′))
+          → Placed P (onFound (foundBy s at stage v)
+          (λ long next. recordsBy known s seen into n (at + long) next (into at a)))
+      go Kept rest = rest (at + lengthField s at) _ (into at a) (on at h)
+      go (Broken r) rest = h
+
+  pub network-placed : P 0 → Placed P (networkFileBy known s)
+  unfolding networkFileBy elementsOnBy linksOnBy endOnBy
+  network-placed front =
+      then-placed P (recordsBy known s (always nothingSeen) asIs 1 0 Head emptyNetwork) (elementsOnBy known s)
+      (records-placed (always nothingSeen) asIs 1 0 Head emptyNetwork front)
+      (λ at stage n h. then-placed P (recordsBy known s (always nothingSeen) (withElement s) (word s 4) at stage n)
+      (λ after next m. linksOnBy known s after (afterLast next) m)
+      (records-placed (always nothingSeen) (withElement s) (word s 4) at stage n h)
+      (λ at′ stage′ n′ h′.
+      then-placed P (recordsBy known s networkSeen (withLink s) (word s 6) at′ (afterLast stage′) n′)
+      (λ after next m. endOnBy known s after (afterLast next) m)
+      (records-placed networkSeen (withLink s) (word s 6) at′ (afterLast stage′) n′ h′)
+      (λ at″ stage″ n″ h″. records-placed (always nothingSeen) asIs 1 at″ (afterLast stage″) n″ h″)))
+
+  pub network-input-placed : P 0 → Placed P (networkInputBy known s)
+  unfolding networkInputBy
+  network-input-placed front =
+      then-placed P (networkFileBy known s) (closed s) (network-placed front) (closed-placed P s)

@@ -12,7 +12,8 @@ use Rattle.file_fields.specs.Fields.{word}
 use Rattle.file_fields.specs.Views.{linksSeen}
 use Rattle.file_network.specs.Runs.{recordsBy, records, always, asIs}
 use Rattle.file_network.specs.Inputs.{closed}
-use Rattle.file_network.proofs.Known.{KnownThere, then-known, records-known}
+use Rattle.file_records.specs.Records.{lengthField}
+use Rattle.file_network.proofs.Known.{KnownThere, then-known, records-known, Placed, then-placed, closed-placed, records-placed}
 use Rattle.file_plan.specs.declared.plan.Plan.{Plan}
 use Rattle.file_plan.specs.PlanFiles.{emptyPlan, withStep, planEndOnBy, planEndOn, stepsOnBy, stepsOn, planFileBy, planFile}
 use Rattle.file_plan.specs.Inputs.{planInputBy, planInput}
@@ -44,3 +45,18 @@ module _ (known : ℕ → Bool) (s : List ℕ) where
   unfolding planInputBy
   plan-input-known links at =
       then-known known s (planFileBy known s links at) (planFile s links at) (closed s) (closed s) (plan-known links at) (λ o stage p there. refl)
+
+-- where every record that stands there is of a known kind
+module _ (P : ℕ → Type 0) (known : ℕ → Bool) (s : List ℕ) (on : (at : ℕ) → P at → P (at + lengthField s at)) where
+  pub plan-input-placed : (links at : ℕ) → P at → Placed P (planInputBy known s links at)
+  unfolding planInputBy planFileBy stepsOnBy planEndOnBy
+  plan-input-placed links at front =
+      let seen = linksSeen links in
+      then-placed P (planFileBy known s links at) (closed s)
+      (then-placed P (recordsBy known s (always seen) asIs 1 at PlanHead emptyPlan) (stepsOnBy known s seen at)
+      (records-placed P known s on (always seen) asIs 1 at PlanHead emptyPlan front)
+      (λ o stage p h. then-placed P (recordsBy known s (always seen) (withStep s) (word s (at + 4)) o stage p)
+      (λ after next q. planEndOnBy known s seen after (afterLast next) q)
+      (records-placed P known s on (always seen) (withStep s) (word s (at + 4)) o stage p h)
+      (λ o′ stage′ p′ h′. records-placed P known s on (always seen) asIs 1 o′ (afterLast stage′) p′ h′)))
+      (closed-placed P s)

@@ -23,6 +23,11 @@ module _ (s : List ℕ) (E K : ℕ) where
   stand-append none y = y
   stand-append (next k x) y = next k (stand-append x y)
 
+  pub stand-split : (a b : List Stage) {at end : ℕ} → Stand s E K (a ++ b) at end
+      → (mid : ℕ) × Stand s E K a at mid × Stand s E K b mid end
+  stand-split [] b {at = at} st = (at, none, st)
+  stand-split (x ∷ a) b (next k st) = let r = stand-split a b st in (r .0, next k (r .1), r .2)
+
   pub break-front : (b : List Stage) {a : List Stage} {at : ℕ} {f : Refusal} → FirstBreak s E K a at f → FirstBreak s E K (a ++ b) at f
   break-front b (here x) = here x
   break-front b (later k x) = later k (break-front b x)

@@ -21,7 +21,7 @@ pub record ElementIs (n : Network) (i load capacity flags : ℕ) : Type 0 where
   pub flags-is : getD (n .flags) i 0 ≡ flags
 
 -- "Kind 3, link, length 12: two different elements, form .., cost"; document 02: "Kind 8 is a switch laid out as kind 3 .. with one more field, the number of
--- its guard"; a number behind the last that a network has room for has none
+-- its guard"; a number past the end of the lists has none, as links beyond K have none
 pub record LinkIs (n : Network) (l from to form cost guard : ℕ) : Type 0 where
   pub from-is : getD (n .from) l 0 ≡ from
   pub to-is : getD (n .to) l 0 ≡ to

@@ -102,7 +102,7 @@ module _ (s : List ℕ) (bytes : Bytes s) where
           (mark-marked (netOf n) (formed-net n w) (accepted-starts n w h .safe) (stepsOf p))
       go w (Refused f) h = refused (in-network n p files (subst (Answered (netOf n)) h (network-answered n w)))
 
-  -- rules 1 to 13
+  -- rules 1 to 13 and 20
   judged-read : (r : BothRead) → bothRead (bothInput s) ≡ r → (a : Answer) → r .answer ≡ a → Judged s (markRead (r .net) (r .plan) a)
   unfolding markRead
   judged-read r e Accepted h =

@@ -26,14 +26,15 @@ use Rattle.judge_line.specs.MarkLines.{markLine}
 
 -- ---- what the paper asks for
 
--- an accepted submitted plan: s is a network file that states n, with a plan file of the steps q directly behind it, and keeps rules 1 to 18
+-- an accepted submitted plan: s is a network file that states n, with a plan file of the steps q directly behind it, and
+-- keeps rules 1 to 18 and 20
 pub record AcceptedPlan (s : List ℕ) (n : Network) (q : List Step) : Type 0 where
   pub plan : Plan
   pub files : BothOf s n plan
   pub steps : q ≡ stepsOf plan
   pub kept : Answered (netOf n) Accepted
 
--- the first rule that the judge's input breaks: of 1 to 13 over both files, then of 14 to 18
+-- the first rule that the judge's input breaks: of 1 to 13 and 20 over both files, then of 14 to 18
 pub data FirstRuleBoth (s : List ℕ) : Refusal → Type 0 where
   in-bytes : {f : Refusal} → FirstBrokenBoth s f → FirstRuleBoth s f
   in-network : {f : Refusal} (n : Network) (p : Plan) → BothOf s n p → Answered (netOf n) (Refused f) → FirstRuleBoth s f
@@ -50,7 +51,7 @@ unfoldable pub markAccepted : Network → Plan → Answer → Mark
 markAccepted n p Accepted = markOf (netOf n) (stepsOf p)
 markAccepted n p (Refused f) = Mark·.Refused f
 
--- rules 1 to 13
+-- rules 1 to 13 and 20
 unfoldable pub markRead : Network → Plan → Answer → Mark
 markRead n p Accepted = markAccepted n p (answerTo n)
 markRead n p (Refused f) = Mark·.Refused f

@@ -11,7 +11,8 @@ ghost use Rattle.texts.specs.Texts.{inFront, Counted};
 ghost use Rattle.judge_line.specs.MarkLines.{markLine};
 ghost use Rattle.judge.specs.Judging.{JudgeReply, markFor};
 
-// The mark of a network file with a plan file directly behind it: rules 1 to 13 over both files, then 14 to 18, then the plan.
+// The mark of a network file with a plan file directly behind it: rules 1 to 13 and 20 over both files, then 14 to 18,
+// then the plan.
 pub fn mark_of(s: &[u8]) -> Mark
     ensures { λ r. ⌜ r ≡ markFor (now (s .entry)) ⌝ }
     ensures { λ r. ⌜ JudgeReply (now (s .entry)) (markLine r) ⌝ }

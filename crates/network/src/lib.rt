@@ -4,7 +4,8 @@ pub mod refusal;
 ghost use mathlib.Core.Path.{_≡_};
 ghost use Rattle.network.specs.Networks.{emptyNetwork};
 
-// A network as its file states it: element i and link l of the file stand at index i and l, and later entries are 0; a link without a guard has 96 there.
+// A network as its file states it: element i and link l of the file stand at index i and l, and later entries are 0. In
+// guard 96 says that there is none: of a link without a guard, and in later entries.
 pub struct Network {
     pub load: [u32; 64],
     pub capacity: [u32; 64],

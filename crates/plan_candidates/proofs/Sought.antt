@@ -112,7 +112,7 @@ module _ (st : Start) (ok : Searchable st) (sw : Switches) (sw-is : sw ≡ switc
     price-at : (i : ℕ) → i < length (operableIn st) → at fixed (64 + i) ≡ netOf n .cost (at (operableIn st) i)
     price-at i k = p .price-at i (in-count i k) ∙ ap (λ (x : Switches). at (x .price) i) sw-is ∙ States.price-at n w op (ok .switches) few i k
 
-    charge-at : (i : ℕ) → i < length (operableIn st) → at fixed (160 + i) ≡ chargeOf (netOf n) (at (operableIn st) i)
+    charge-at : (i : ℕ) → i < length (operableIn st) → at fixed (160 + i) ≡ chargeOf (netOf n .guard) (netOf n .cost) (netOf n .grid .K) (at (operableIn st) i)
     unfolding chargeOf netOf gridOf
     charge-at i k = charging .charge-at i (in-count i k) ∙ rw (link-at i k)
 
@@ -121,6 +121,7 @@ module _ (st : Start) (ok : Searchable st) (sw : Switches) (sw-is : sw ≡ switc
     fellows-at i k = charging .fellows-at i (in-count i k) ∙ fellows-ext _ _ (n .links) i (λ j h. ap (at (n .guard)) (link-at j (omega arith)))
 
     charges-small : (i : ℕ) → i < sw .count → at fixed (160 + i) < 131072
+    unfolding chargeOf
     charges-small i k = go (ltb (at (n .guard) (at (sw .link) i)) (n .links)) refl
       where
         go : (t : Bool) → ltb (at (n .guard) (at (sw .link) i)) (n .links) ≡ t → at fixed (160 + i) < 131072
@@ -136,7 +137,7 @@ module _ (st : Start) (ok : Searchable st) (sw : Switches) (sw-is : sw ≡ switc
         ∙ price-cost (netOf n) op s
       where
         adds : ℕ → ℕ → ℕ
-        adds = addsBy (λ i. netOf n .cost (at (operableIn st) i)) (λ i. chargeOf (netOf n) (at (operableIn st) i))
+        adds = addsBy (λ i. netOf n .cost (at (operableIn st) i)) (λ i. chargeOf (netOf n .guard) (netOf n .cost) (netOf n .grid .K) (at (operableIn st) i))
             (fellowsOf (λ j. netOf n .guard (at (operableIn st) j)) (netOf n .grid .K))
 
     -- the walks from the list

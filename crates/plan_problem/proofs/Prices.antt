@@ -118,7 +118,7 @@ module _ (net : Net) (op : ℕ → ℕ) (n : ℕ) (rising : (i j : ℕ) → i < 
   new : D l ≡ false
   new = set-free op n t (op n) (λ j k e. let r : op j < op n = rising j n k (omega arith) in omega arith)
 
-  charged : chargeBy (chargeOf net l) (fellowsOf (λ j. net .guard (op j)) (net .grid .K) n) t
+  charged : chargeBy (chargeOf (net .guard) (net .cost) (net .grid .K) l) (fellowsOf (λ j. net .guard (op j)) (net .grid .K) n) t
       ≡ gate (ltb (net .guard l) (net .grid .K) && not (guards? net D (net .guard l))) (2 * net .cost (net .guard l))
   unfolding chargeBy chargeOf fellowsOf
   charged = go (ltb (net .guard (op n)) (net .grid .K))
@@ -163,7 +163,7 @@ module _ (net : Net) (op : ℕ → ℕ) (n : ℕ) (rising : (i j : ℕ) → i < 
       go false e = refl
 
   one-more : (b : Bool) → setCost net (put D l b)
-      ≡ setCost net D + gate b (net .cost l + chargeBy (chargeOf net l) (fellowsOf (λ j. net .guard (op j)) (net .grid .K) n) t)
+      ≡ setCost net D + gate b (net .cost l + chargeBy (chargeOf (net .guard) (net .cost) (net .grid .K) l) (fellowsOf (λ j. net .guard (op j)) (net .grid .K) n) t)
   unfolding setCost
   one-more true =
       omega (
@@ -180,16 +180,16 @@ module _ (net : Net) (op : ℕ → ℕ) (n : ℕ) (rising : (i j : ℕ) → i < 
       )
 
 price-set : (net : Net) (op : ℕ → ℕ) (n : ℕ) → ((i j : ℕ) → i < j → j < n → op i < op j) → ((j : ℕ) → j < n → op j < net .grid .K) → (s : ℕ)
-    → priceOf (addsBy (λ i. net .cost (op i)) (λ i. chargeOf net (op i)) (fellowsOf (λ j. net .guard (op j)) (net .grid .K))) n s ≡ setCost net (setOf op n s)
+    → priceOf (addsBy (λ i. net .cost (op i)) (λ i. chargeOf (net .guard) (net .cost) (net .grid .K) (op i)) (fellowsOf (λ j. net .guard (op j)) (net .grid .K))) n s ≡ setCost net (setOf op n s)
 unfolding priceOf setOf addsBy
 price-set net op zero rising inside s = sym (set-none net)
 price-set net op (suc n) rising inside s =
-    ap (λ (x : ℕ). x + gate (eqb (s % 2) 1) (net .cost (op n) + chargeBy (chargeOf net (op n)) (fellowsOf (λ j. net .guard (op j)) (net .grid .K) n) (s / 2)))
+    ap (λ (x : ℕ). x + gate (eqb (s % 2) 1) (net .cost (op n) + chargeBy (chargeOf (net .guard) (net .cost) (net .grid .K) (op n)) (fellowsOf (λ j. net .guard (op j)) (net .grid .K) n) (s / 2)))
     (price-set net op n (λ i j h k. rising i j h (omega arith)) (λ j k. inside j (omega arith)) (s / 2))
     ∙ sym (one-more net op n rising inside (s / 2) (eqb (s % 2) 1))
 
 pub price-cost : (net : Net) (op : ℕ → Bool) (s : ℕ)
-    → priceOf (addsBy (λ i. net .cost (at (operablesBy net op) i)) (λ i. chargeOf net (at (operablesBy net op) i))
+    → priceOf (addsBy (λ i. net .cost (at (operablesBy net op) i)) (λ i. chargeOf (net .guard) (net .cost) (net .grid .K) (at (operablesBy net op) i))
     (fellowsOf (λ j. net .guard (at (operablesBy net op) j)) (net .grid .K))) (length (operablesBy net op)) s
     ≡ setCost net (setIn (operablesBy net op) s)
 unfolding operablesBy setIn

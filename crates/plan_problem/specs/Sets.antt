@@ -8,7 +8,7 @@ use lib.Bits.{bitAnd}
 use lib.Dec.{eqb, ltb}
 use lib.ListN.{length}
 use Rattle.feeding.specs.Below.{gate}
-use Rattle.feeding.specs.Networks.{Net, at}
+use Rattle.feeding.specs.Networks.{at}
 use Rattle.feeding.specs.Plans.{put}
 use Rattle.plan_problem.specs.declared.Best.{Best}
 use Rattle.plan_problem.specs.Choosing.{Choice, nothing, chosen}
@@ -33,9 +33,9 @@ maskOf f (suc n) = 2 * maskOf f n + gate (f n) 1
 unfoldable pub chargeBy : (charge fellows t : ℕ) → ℕ
 chargeBy charge fellows t = gate (eqb (bitAnd t fellows) 0) charge
 
--- twice the cost of a link's guard, where it has one
-unfoldable pub chargeOf : Net → ℕ → ℕ
-chargeOf net l = gate (ltb (net .guard l) (net .grid .K)) (2 * net .cost (net .guard l))
+-- twice the cost of link l's guard, where it has one, a number below K
+unfoldable pub chargeOf : (guard cost : ℕ → ℕ) → ℕ → ℕ → ℕ
+chargeOf guard cost K l = gate (ltb (guard l) K) (2 * cost (guard l))
 
 -- the fellows of switch i, where it has a guard, a number below K; `guard j` is that of switch j
 unfoldable pub fellowsOf : (guard : ℕ → ℕ) → ℕ → ℕ → ℕ

@@ -1,35 +1,34 @@
 -- The two columns of charges and fellows, switch by switch: one entry more in each, with the rest of the array as before.
 -- Assumes nothing.
 use Prim.Native.Nat.{ℕ, _+_, _*_, _≤_, _<_}
-use mathlib.Core.Path.{_≡_, refl, sym, ap, _∙_}
+use mathlib.Core.Path.{_≡_, refl, _∙_}
 use mathlib.Core.Bool.{Bool, true, false}
 use mathlib.Core.List.{List}
-use lib.Dec.{eqb, ltb}
+use lib.Dec.{eqb}
 use lib.ListN.{length, set, length-set}
 use lib.Seq.{getD-set-same, getD-set-other}
 use borrow.Author.Tests.{eqb-true, eqb-false, lt-ltb, le-ltb}
 use native.Mathlib.Omega.{arith}
-use Rattle.feeding.specs.Below.{gate}
 use Rattle.feeding.specs.Networks.{at}
-use Rattle.plan_problem.specs.Sets.{maskOf, fellowsOf}
+use Rattle.plan_problem.specs.Sets.{maskOf, chargeOf, fellowsOf}
 use Rattle.plan_switches.specs.declared.Switches.{Switches}
 use Rattle.plan_setting.specs.Setting.{Packed, Charging}
 
 -- what the entries of switch i are
 module _ (guard cost : List ℕ) (K : ℕ) (link : List ℕ) where
   abbrev chargeIn : ℕ → ℕ
-  chargeIn i = gate (ltb (at guard (at link i)) K) (2 * at cost (at guard (at link i)))
+  chargeIn i = chargeOf (at guard) (at cost) K (at link i)
 
   abbrev fellowsIn : ℕ → ℕ
   fellowsIn i = fellowsOf (λ j. at guard (at link j)) K i
 
   pub guarded-entries : (i c f : ℕ) → at guard (at link i) < K → c ≡ 2 * at cost (at guard (at link i))
       → f ≡ maskOf (λ j. eqb (at guard (at link j)) (at guard (at link i))) i → (c ≡ chargeIn i) × (f ≡ fellowsIn i)
-  unfolding fellowsOf
+  unfolding chargeOf fellowsOf
   guarded-entries i c f h e q = rw (lt-ltb (at guard (at link i)) K h) (e, q)
 
   pub free-entries : (i c f : ℕ) → K ≤ at guard (at link i) → c ≡ 0 → f ≡ 0 → (c ≡ chargeIn i) × (f ≡ fellowsIn i)
-  unfolding fellowsOf
+  unfolding chargeOf fellowsOf
   free-entries i c f h e q = rw (le-ltb (at guard (at link i)) K h) (e, q)
 
   pub record ChargesTo (before : List ℕ) (i : ℕ) (xs : List ℕ) : Type 0 where

@@ -2,12 +2,10 @@
 -- Assumes nothing.
 use mathlib.Core.Path.{_≡_}
 use mathlib.Core.List.{List}
-use Prim.Native.Nat.{ℕ, _+_, _*_, _<_, _≤_}
-use lib.Dec.{ltb}
+use Prim.Native.Nat.{ℕ, _+_, _<_, _≤_}
 use lib.ListN.{length}
-use Rattle.feeding.specs.Below.{gate}
 use Rattle.feeding.specs.Networks.{at}
-use Rattle.plan_problem.specs.Sets.{fellowsOf, addsBy}
+use Rattle.plan_problem.specs.Sets.{chargeOf, fellowsOf, addsBy}
 use Rattle.plan_switches.specs.declared.Switches.{Switches}
 use Rattle.plan_switches.specs.Switches.{SwitchReach}
 
@@ -81,7 +79,7 @@ pub record Listed (fixed : List ℕ) (sources : List ℕ) : Type 0 where
 
 -- two columns more: the charges of the guards and the fellows of the switches that are these links, with the rest as before
 pub record Charging (guard cost : List ℕ) (K : ℕ) (link : List ℕ) (count : ℕ) (before fixed : List ℕ) : Type 0 where
-  pub charge-at : (i : ℕ) → i < count → at fixed (160 + i) ≡ gate (ltb (at guard (at link i)) K) (2 * at cost (at guard (at link i)))
+  pub charge-at : (i : ℕ) → i < count → at fixed (160 + i) ≡ chargeOf (at guard) (at cost) K (at link i)
   pub fellows-at : (i : ℕ) → i < count → at fixed (176 + i) ≡ fellowsOf (λ j. at guard (at link j)) K i
   pub kept : (k : ℕ) → k < 160 → at fixed k ≡ at before k
 

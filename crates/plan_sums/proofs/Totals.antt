@@ -1,6 +1,6 @@
 -- A sum over the elements that pass a test by one element more, and the three sums from the sets that the code makes: each set has the theory's elements.
 -- Assumes nothing.
-use mathlib.Core.Path.{_≡_, ap, ap₂, _∙_}
+use mathlib.Core.Path.{_≡_, sym, ap, ap₂, _∙_}
 use mathlib.Core.Bool.{Bool, true, false, not, _&&_, and-false}
 use mathlib.Core.List.{List}
 use Prim.Native.Nat.{ℕ, _+_, _*_, _<_, _≤_}
@@ -18,6 +18,9 @@ use Rattle.feeding.proofs.Below.{gate-le}
 use Rattle.feeding.proofs.Sums.{sumTo-no, sumTo-more, sumTo-ext, sumTo-below}
 use Rattle.feeding_restoration.proofs.Reach.{bits-long}
 use Rattle.feeding_restoration.proofs.Sets.{set-at, fits}
+use Rattle.feeding_start.specs.declared.Start.{Start}
+use Rattle.feeding_start.specs.Starting.{Begun}
+use Rattle.feeding_start.proofs.Starts.{restorable-of}
 use Rattle.plan_sums.specs.Sums.{loadOver, LoadsReach, sumsOver, sumsAfter}
 use Rattle.plan_sums.specs.declared.Sums.{Sums}
 
@@ -50,6 +53,36 @@ darkIn live restorable e = isIn restorable e && not (isIn live e)
 
 abbrev pub lostIn : (restorable : List ℕ) → ℕ → Bool
 lostIn restorable e = not (isIn restorable e)
+
+-- the three sums over the elements below x
+pub record SumsTo (load live restorable : List ℕ) (x fed dark lost : ℕ) : Type 0 where
+  pub fed-is : fed ≡ loadOver (at load) (isIn live) x
+  pub dark-is : dark ≡ loadOver (at load) (darkIn live restorable) x
+  pub lost-is : lost ≡ loadOver (at load) (lostIn restorable) x
+
+pub sums-none : (load live restorable : List ℕ) {x fed dark lost : ℕ} → x ≡ 0 → fed ≡ 0 → dark ≡ 0 → lost ≡ 0
+    → SumsTo load live restorable x fed dark lost
+sums-none load live restorable none f d l = rw none (record {
+  fed-is = f ∙ sym (load-none (at load) (isIn live));
+  dark-is = d ∙ sym (load-none (at load) (darkIn live restorable));
+  lost-is = l ∙ sym (load-none (at load) (lostIn restorable));
+})
+
+-- one load more fits 64 bits
+module _ {load live restorable : List ℕ} {n x fed dark lost : ℕ} (reach : LoadsReach load live restorable n)
+    (sums : SumsTo load live restorable x fed dark lost) (k : x < n) where
+  below : (test : ℕ → Bool) → loadOver (at load) test x + at load x < 18446744073709551616
+  below test =
+      omega (arith, reach .fit, reach .load-in x k, load-most (at load) test x (λ e h. reach .load-in e (omega arith)))
+
+  pub fed-fits : (own : ℕ) → own ≡ at load x → fed + own < 18446744073709551616
+  fed-fits own e = omega (arith, sums .fed-is, below (isIn live))
+
+  pub dark-fits : (own : ℕ) → own ≡ at load x → dark + own < 18446744073709551616
+  dark-fits own e = omega (arith, sums .dark-is, below (darkIn live restorable))
+
+  pub lost-fits : (own : ℕ) → own ≡ at load x → lost + own < 18446744073709551616
+  lost-fits own e = omega (arith, sums .lost-is, below (lostIn restorable))
 
 module _ (load live restorable : List ℕ) (x sum sum′ : ℕ) where
   pub fed-on : sum ≡ loadOver (at load) (isIn live) x → at live x ≡ 1 → sum′ ≡ sum + at load x → sum′ ≡ loadOver (at load) (isIn live) (x + 1)
@@ -109,6 +142,10 @@ pub sums-more : (load : ℕ → ℕ) (live restorable : ℕ → Bool) (n : ℕ) 
 unfolding sumsOver
 sums-more load live restorable n l e = rw e (same (load-more load live n) (load-more load (λ x. restorable x && not (live x)) n) (load-more load (λ x. not (restorable x)) n))
 
+-- the set that is held since the start has 96 entries
+pub restorable-long : (s : Start) → Begun s → 96 ≡ length (s .restorable)
+restorable-long s begun = sym (bits-long _ _ _ (restorable-of s _ (begun .made)))
+
 module _ (n : Network) (w : WellFormed n) where
   pub lists-reach : (live restorable : List ℕ) (m : ℕ) → m ≤ n .elements → m ≤ length live → m ≤ length restorable → LoadsReach (n .load) live restorable m
   lists-reach live restorable m h live-long restorable-long =
@@ -122,11 +159,6 @@ module _ (n : Network) (w : WellFormed n) where
 
   module _ (closed live restorable : List ℕ) (live-made : live ≡ bits 96 (n .elements) (live? (netOf n .grid) (closedIn closed)))
       (restorable-made : restorable ≡ bits 96 (n .elements) (restorable? (netOf n))) where
-    pub loads-reach : LoadsReach (n .load) live restorable (n .elements)
-    loads-reach =
-        lists-reach live restorable (n .elements) (omega arith)
-        (omega (arith, bits-long live _ _ live-made, fits n w)) (omega (arith, bits-long restorable _ _ restorable-made, fits n w))
-
     pub sums-are : sumsOver (at (n .load)) (isIn live) (isIn restorable) (n .elements) ≡ sumsAfter (netOf n) (closedIn closed)
     unfolding sumsAfter netOf gridOf
     sums-are = sums-ext (at (n .load)) (isIn live) _ (isIn restorable) _ (n .elements)

@@ -2,6 +2,7 @@
 -- Assumes nothing.
 use mathlib.Core.Path.{_≡_, refl, sym, ap, _∙_, subst}
 use mathlib.Core.List.{List, _++_}
+use mathlib.Core.Logic.{_↔_}
 use Prim.Native.Nat.{ℕ, _<_, _≤_}
 use native.Mathlib.Omega.{arith}
 use lib.Dec.{ltb}
@@ -35,7 +36,7 @@ use Rattle.theorems.proofs.Texts.{plan-text-same, none-text-same, refus
 use Rattle.theorems.proofs.Answers.{plan-text-is, none-text-is, refused-text-is, promised-text, promised-printed, first-text, planner-once}
 use Rattle.theorems.proofs.Submitted.{found-submitted, found-marked}
 use Rattle.theorems.proofs.Words.{reply-printed, none-printed-by, refused-printed-by, valid-word}
-use Rattle.feeding_acceptance.specs.Reading.{Bytes, AcceptedNetwork}
+use Rattle.feeding_acceptance.specs.Reading.{Bytes, AcceptedNetwork, FirstRule}
 use Rattle.planner.specs.Replies.{planTextOf, planFileOf, PlannerReply, LibraryReply}
 use Rattle.judge.specs.Judging.{AcceptedPlan}
 use Rattle.theorems.specs.Words.{planText, markText}
@@ -176,3 +177,19 @@ module _ (s : List ℕ) (bytes : Bytes s) (before : List ℕ) where
   library-once _ _ (Replies.LibraryReply.refused {f = f} b) =
       let is = reply-refused s before f (sym (first-text s bytes f b)) in
       (sym is, sym (refusal-unwritten f is))
+
+  -- a refusal by any rule but 19 is the first rule broken
+  pub library-refused : (f : Refusal) → ¬ (f .rule ≡ BufferTooShort)
+      → (replyFor (outcome s) before ≡ Reply·.Refused f) ↔ FirstRule s f
+  library-refused f other = (
+    λ e. go _ _ (library-replies s bytes before) e,
+    λ b. sym (library-once (Reply·.Refused f) before (Replies.LibraryReply.refused b) .0),
+  )
+    where
+      go : (r : Reply) (after : List ℕ) → LibraryReply s before r after → r ≡ Reply·.Refused f → FirstRule s f
+      go _ _ (Replies.LibraryReply.plan n q cost l a p h room) e = let z : _≡_ {A = ℕ} 0 1 = cc in absurd (omega arith)
+      go _ _ (Replies.LibraryReply.short n q cost a p few) e =
+          let same : record { rule = BufferTooShort; place = length (planFileOf q) } ≡ f = cc in
+          absurd (other (sym (ap (λ (x : Refusal). x .rule) same)))
+      go _ _ (Replies.LibraryReply.none n l a p h) e = let z : _≡_ {A = ℕ} 0 1 = cc in absurd (omega arith)
+      go _ _ (Replies.LibraryReply.refused {f = g} b) e = let same : g ≡ f = cc in subst (FirstRule s) same b

@@ -72,8 +72,8 @@ module _ (s : List ℕ) where
   pub one-plan : (n m : Network) (q r : List Step) → AcceptedPlan s n q → AcceptedPlan s m r → (n ≡ m) × (q ≡ r)
   one-plan = Exactly.plan-once s
 
-  -- the readers, by the contracts of `read_network` and `read_network_and_plan`: what the files state, or the first of rules 1 to 13 that is
-  -- broken. "A refusal hands out no plan, mark or partial network."
+  -- the readers, by the contracts of `read_network` and `read_network_and_plan`: what the files state, or the first of
+  -- rules 1 to 13 and 20 that is broken. "A refusal hands out no plan, mark or partial network."
   pub network-stated : (n : Network) → (networkRead (networkInput s) ≡ record { answer = Accepted; net = n }) ↔ NetworkOf s n
   network-stated = network-read s
 

@@ -1,15 +1,15 @@
 -- Document 02, item 1, "Loads above 65,535", sentence by sentence, for every sequence of bytes s. `planText`, `markText`, `outcome` are what planner, judge and
--- library give by their contracts (Demand1); that rules 1 to 13 are answered both ways, with kind 7 among the kinds, is Demand1's.
+-- library give by their contracts (Demand1); that rules 1 to 13 and 20 are answered both ways, with kind 7 among the kinds, is Demand1's.
 -- Assumes nothing.
 use mathlib.Core.Path.{_≡_, refl, sym, ap, subst, _∙_}
-use mathlib.Core.Bool.{true}
+use mathlib.Core.Bool.{true, false}
 use mathlib.Core.List.{List, _∷_}
 use mathlib.Core.Logic.{_↔_}
 use Prim.Native.Nat.{ℕ, _+_, _*_, _-_, _^_, _<_, _≤_}
 use native.Mathlib.Nat.{add-assoc}
 use native.Mathlib.Omega.{arith}
 use lib.ListN.{length, getD, take, replicate}
-use borrow.Author.Tests.{le-ltb}
+use borrow.Author.Tests.{le-ltb, ne-eqb}
 use Rattle.network.specs.declared.Network.{Network}
 use Rattle.network.specs.declared.refusal.Rule.the-variants.{KindOutOfPlace, WrongLength, UnknownFlags}
 use Rattle.file_stages.specs.declared.Stage.{Stage}
@@ -26,7 +26,7 @@ use Rattle.file_both.specs.declared.BothRead.{BothRead}
 use Rattle.file_network.specs.declared.NetworkRead.{NetworkRead}
 use Rattle.file_both.specs.Inputs.{bothInputBy}
 use Rattle.file_refusals.proofs.Record.{comes-next, in-table, length-only}
-use Rattle.file_refusals.specs.Breaking.{ComesNext, KindLength, wide-element, StatesElement, narrow, wide, BreaksRule}
+use Rattle.file_refusals.specs.Breaking.{ComesNext, KindLength, Lead, wide-element, StatesElement, narrow, wide, BreaksRule}
 use Rattle.file_refusals.specs.Files.{Stand, KeepsNetwork, KeepsBoth}
 use Rattle.file_refusals.specs.Stated.{ElementIs}
 use Rattle.file_refusals.proofs.Reading.{file-formed}
@@ -51,7 +51,7 @@ use Rattle.judge.proofs.Marking.{mark-decided}
 use Rattle.theorems.proofs.AsEver as AsEver
 use Rattle.theorems.proofs.Exactly as Exactly
 use Rattle.theorems.proofs.Lengths as Lengths
-use Rattle.theorems.specs.Words.{planText, markText, planTextBy, markTextBy, documentOne}
+use Rattle.theorems.specs.Words.{planText, markText, planTextBy, markTextBy, documentOne, Without}
 
 -- ---- "Kind 7 is an element with load and capacity of four bytes each, then flags, length 14,"
 
@@ -126,13 +126,15 @@ judge-decided s = ap markLine (mark-decided s)
 -- ---- "A file of kind 2 records gets the plan and marks it always got,": what a reader gives that knows the kinds of document 01 alone, refusals included, but
 -- where that refuses a record of a later kind by rule 2
 
--- a record of a kind of document 01 is found and refused as ever, one of kind 7 refused by rule 2 where four bytes stand there
+-- a record of a kind of document 01 is found and refused as ever, one of any other is refused by rule 2 where four bytes
+-- stand there
 pub known-record : (s : List ℕ) (seen : Seen) (at : ℕ) (stage : Stage) → documentOne (kindField s at) ≡ true → dueBy documentOne s seen at stage ≡ dueAt s seen at stage
 known-record = Known.known-record documentOne
 
-pub unknown-record : (s : List ℕ) (seen : Seen) (at : ℕ) (stage : Stage) → kindField s at ≡ 7 → at + 4 ≤ length s
-    → dueBy documentOne s seen at stage ≡ Found·.Refused (record { rule = KindOutOfPlace; place = at })
-unknown-record s seen at stage h four = Known.unknown-record documentOne s seen at stage (ap documentOne h) (le-ltb (length s - at) 4 (omega arith))
+pub unknown-record : (s : List ℕ) (seen : Seen) (at : ℕ) (stage : Stage) → documentOne (kindField s at) ≡ false
+    → at + 4 ≤ length s → dueBy documentOne s seen at stage ≡ Found·.Refused (record { rule = KindOutOfPlace; place = at })
+unknown-record s seen at stage h four =
+    Known.unknown-record documentOne s seen at stage h (le-ltb (length s - at) 4 (omega arith))
 
 module _ (s : List ℕ) where
   pub library-as-ever : ((place : ℕ) → networkInputBy documentOne s ≡ refused (record { rule = KindOutOfPlace; place = place }) → documentOne (kindField s place) ≡ true)
@@ -146,6 +148,20 @@ module _ (s : List ℕ) where
   pub judge-as-ever : ((place : ℕ) → bothInputBy documentOne s ≡ refused (record { rule = KindOutOfPlace; place = place }) → documentOne (kindField s place) ≡ true)
       → markText s ≡ markTextBy documentOne s
   judge-as-ever = AsEver.judge-as-ever documentOne s
+
+  -- so where no record is of kind 7, nor of item 2's kind 8
+  module _ (no-7 : Without 7 s) (no-8 : Without 8 s) where
+    known : (n at : ℕ) → Lead s n 0 at → documentOne (kindField s at) ≡ true
+    known n at lead = rw (ne-eqb (kindField s at) 8 (no-8 n at lead), ne-eqb (kindField s at) 7 (no-7 n at lead))
+
+    pub library-without : outcome s ≡ outcomeBy documentOne s
+    library-without = AsEver.library-of-kinds documentOne s known
+
+    pub planner-without : planText s ≡ planTextBy documentOne s
+    planner-without = AsEver.planner-of-kinds documentOne s known
+
+    pub judge-without : markText s ≡ markTextBy documentOne s
+    judge-without = AsEver.judge-of-kinds documentOne s known
 
 -- ---- "and a narrow element rewritten as kind 7 changes no printed line of a file that passes rules 1 to 13.": one after the other, any number of elements;
 -- `KeepsNetwork`, `KeepsBoth` ask rule 20 too, as item 2 wishes

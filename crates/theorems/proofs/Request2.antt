@@ -3,17 +3,18 @@
 -- Assumes nothing.
 use mathlib.Core.Path.{_≡_, refl, sym, ap, subst, _∙_}
 use mathlib.Core.Bool.{true}
-use mathlib.Core.List.{List, _∷_, _++_}
-use mathlib.Core.Logic.{_↔_, _⊎_, inl, inr}
+use mathlib.Core.List.{List, [], _∷_, _++_}
+use mathlib.Core.Logic.{_↔_, Iff·rfl, Iff·trans, Iff·and, _⊎_}
 use Prim.Native.Nat.{ℕ, _+_, _*_, _-_, _<_, _≤_}
 use native.Mathlib.Omega.{arith}
 use lib.ListN.{length, getD, replicate}
-use borrow.Author.Tests.{le-ltb}
+use borrow.Author.Tests.{le-ltb, ne-eqb}
 use Rattle.network.specs.declared.Network.{Network}
+use Rattle.network.specs.declared.refusal.Refusal.{Refusal}
 use Rattle.network.specs.declared.refusal.Rule.the-variants.{KindOutOfPlace, WrongLength, UnknownForm, UnsuitedCost, TooManySteps, BadGuard}
 use Rattle.network.specs.Networks.{noGuard}
 use Rattle.network.specs.Accepted.{WellFormed}
-use Rattle.network.specs.Refusals.{Sooner, position}
+use Rattle.network.specs.Refusals.{Sooner, position, ruleNumber}
 use Rattle.network.proofs.Order.{guard-after-cost}
 use Rattle.file_stages.specs.declared.Stage.{Stage}
 use Rattle.file_stages.specs.declared.Stage.the-variants.{Head, Elements, Links, End, PlanHead, Steps, PlanEnd, Over}
@@ -26,22 +27,25 @@ use Rattle.file_records.proofs.Known as Known
 use Rattle.file_network.specs.Runs.{refused}
 use Rattle.file_network.specs.Inputs.{networkInputBy}
 use Rattle.file_both.specs.Inputs.{bothInputBy}
-use Rattle.file_refusals.specs.Breaking.{ComesNext, KindLength, guarded-link, BreaksRule}
+use Rattle.file_refusals.specs.Breaking.{ComesNext, KindLength, guarded-link, Lead, EarlierSwitch, BreaksRule}
 use Rattle.file_refusals.specs.Files.{Stand, KeepsNetwork, KeepsBoth}
 use Rattle.file_refusals.specs.Stated.{LinkIs, unguarded, guarded}
 use Rattle.file_refusals.proofs.Files.{stand-unbroken}
 use Rattle.file_refusals.proofs.Record.{comes-next, in-table, length-only}
+use Rattle.file_refusals.proofs.Leads.{earlier-number, guard-number}
 use Rattle.file_refusals.proofs.Reading.{file-formed}
 use Rattle.file_refusals.proofs.Stated.{within}
 use Rattle.texts.specs.Texts.{refusedLine, lineOf}
-use Rattle.feeding.specs.Networks.{Net, netOf, gridOf, at}
+use Rattle.feeding.specs.Networks.{Net, withGuards, netOf, gridOf, at}
 use Rattle.feeding.specs.Plans.{Step, ValidPlan, operations}
-use Rattle.feeding.specs.Costs.{stepsCost, HasGuard, Costs, costOf}
+use Rattle.feeding.specs.Costs.{stepsCost, HasGuard, PaidFor, Costs, costOf}
 use Rattle.feeding.proofs.Guards.{cost-is, cost-only, operated-in, operated-out}
 use Rattle.feeding.proofs.Prices as Prices
-use Rattle.feeding_acceptance.specs.Reading.{Bytes, AcceptedNetwork, FirstRule}
+use Rattle.feeding.proofs.Behind as Behind
+use Rattle.feeding.proofs.OtherGuards as OtherGuards
+use Rattle.plan_problem.specs.Choosing.{NoPlan}
+use Rattle.feeding_acceptance.specs.Reading.{Bytes, AcceptedNetwork}
 use Rattle.feeding_acceptance.specs.Reading as Reading
-use Rattle.file_refusals.specs.Files.{in-file, in-network}
 use Rattle.judge_marks.specs.declared.Score.{Score}
 use Rattle.judge_marks.specs.declared.Mark.{Mark}
 use Rattle.judge_marks.specs.declared.Mark.the-variants as Mark·
@@ -50,14 +54,16 @@ use Rattle.judge_marks.specs.Marks as Marks
 use Rattle.judge_line.specs.MarkLines.{validWord, markLine}
 use Rattle.plan_sums.specs.declared.Sums.{Sums}
 use Rattle.plan_outcome.specs.Outcomes.{outcomeBy, outcome}
-use Rattle.judge.specs.Judging.{AcceptedPlan, FirstRuleBoth}
+use Rattle.judge.specs.Judging.{AcceptedPlan}
 use Rattle.judge.specs.Judging as Judging
 use Rattle.theorems.proofs.AsEver as AsEver
+use Rattle.theorems.proofs.Buffers as Buffers
 use Rattle.theorems.proofs.Exactly as Exactly
-use Rattle.theorems.proofs.Guarding.{guard-breaks, first-guard, first-guard-both, link-placed}
-use Rattle.planner.specs.Replies.{planTextOf}
+use Rattle.theorems.proofs.Guarding.{form-broken, guard-breaks, first-guard, first-guard-both, first-form, first-form-both, link-placed}
+use Rattle.plan_outcome.specs.declared.Reply.the-variants as Reply·
+use Rattle.planner.specs.Replies.{planTextOf, replyFor}
 use Rattle.theorems.proofs.Words.{printed-promises}
-use Rattle.theorems.specs.Words.{planText, markText, planTextBy, markTextBy, itemOne, GuardRefused}
+use Rattle.theorems.specs.Words.{planText, markText, planTextBy, markTextBy, itemOne, Without, FormRefused, GuardRefused}
 
 -- ---- "Kind 8 is a switch laid out as kind 3, in the same places, with one more field, the number of its guard, an earlier switch link; length 14."
 
@@ -95,6 +101,21 @@ pub guard-earlier : (s : List ℕ) → Bytes s → (n : Network) → AcceptedNet
     → ¬ (getD (n .form) l 0 ≡ 0) × ((getD (n .guard) l 0 < l) × ¬ (getD (n .form) (getD (n .guard) l 0) 0 ≡ 0))
 guard-earlier s bytes n a l k has = let g = file-formed s bytes n (a .file) .guarded l k has in (g .switch, (g .earlier, g .guards))
 
+-- an earlier switch is one of a lower number that is not fixed; so rule 20 is broken where the guard's number is not below
+-- the link's own, or is that of a fixed link. The record of link g stands at a place:
+abbrev LinkStands : (s : List ℕ) (E K g place : ℕ) → Type 0
+LinkStands s E K g place = Stand s E K ((Head ∷ replicate E Elements) ++ replicate g Links) 0 place
+
+module _ (s : List ℕ) (E K l at : ℕ) (stand : LinkStands s E K l at) where
+  pub earlier-switch : (g : ℕ) → EarlierSwitch s E at g
+      ↔ ((g < l) × ((place : ℕ) → LinkStands s E K g place → ¬ (word s (place + 8) ≡ 0)))
+  earlier-switch = earlier-number s E K l at stand
+
+  pub guard-refused : (stage : Stage) → kindField s at ≡ 8 → BreaksRule s E K at stage BadGuard
+      ↔ ((l ≤ word s (at + 12))
+      ⊎ ((place : ℕ) × LinkStands s E K (word s (at + 12)) place × (word s (place + 8) ≡ 0)))
+  guard-refused = guard-number s E K l at stand
+
 -- ---- "A plan's cost gains twice the guard's own cost, once for each guard however many of its switches are operated."
 
 -- what computes is what these words say, for every list of steps, and nothing else is
@@ -108,7 +129,32 @@ pub one-charge : (net : Net) (q : List Step) (l : ℕ) → l < net .grid .K → 
 one-charge net q l k operates has same =
     cost-said net q _ .1 (sym (Prices.one-charge net q l (net .guard l) k (operated-in q l operates) refl has (λ m b o. same m b (operated-out q m o))))
 
--- ---- "These openings aren't steps.": where no operated switch has a guard, as a guard's own guard that is not operated, the steps' own costs are all
+-- of several guards each has its charge: one more step of a switch whose guard is paid for adds its own cost alone, one of
+-- a switch whose guard is not adds twice the guard's cost too
+module _ (net : Net) (q : List Step) (s : Step) (inside : s .link < net .grid .K) (cost : ℕ) (paid : Costs net q cost) where
+  so-far : cost ≡ costOf net q
+  so-far = cost-said net q cost .0 paid
+
+  pub paid-again : PaidFor net q (net .guard (s .link)) → Costs net (q ++ (s ∷ [])) (cost + net .cost (s .link))
+  paid-again p = cost-said net _ _ .1 (omega (arith, so-far, Behind.cost-paid net q s inside p))
+
+  pub paid-first : HasGuard net (s .link) → ¬ PaidFor net q (net .guard (s .link))
+      → Costs net (q ++ (s ∷ [])) (cost + net .cost (s .link) + 2 * net .cost (net .guard (s .link)))
+  paid-first has unpaid = cost-said net _ _ .1 (omega (arith, so-far, Behind.cost-new net q s inside has unpaid))
+
+  pub free-step : ¬ HasGuard net (s .link) → Costs net (q ++ (s ∷ [])) (cost + net .cost (s .link))
+  free-step free = cost-said net _ _ .1 (omega (arith, so-far, Behind.cost-free net q s inside free))
+
+-- ---- "These openings aren't steps.": guards make no plan valid or invalid
+
+module _ (net : Net) (guard : ℕ → ℕ) where
+  pub same-plans : (q : List Step) → ValidPlan net q ↔ ValidPlan (withGuards net guard) q
+  same-plans = OtherGuards.same-plans net guard
+
+  pub same-none : NoPlan net ↔ NoPlan (withGuards net guard)
+  same-none = (λ none q v. none q (same-plans q .1 v), λ none q v. none q (same-plans q .0 v))
+
+-- and where no operated switch has a guard, as a guard's own guard that is not operated, the steps' own costs are all
 
 pub steps-alone : (net : Net) (q : List Step) → ((l : ℕ) → l < net .grid .K → 0 < operations l q → ¬ HasGuard net l) → Costs net q (stepsCost net q)
 steps-alone net q free = cost-said net q _ .1 (sym (Prices.unguarded-list net q (λ l k o. free l k (operated-out q l o))))
@@ -159,15 +205,24 @@ module _ (s : List ℕ) (bytes : Bytes s) (n : Network) where
 
 pub form-refused : (s : List ℕ) (E K at : ℕ) (stage : Stage) → kindField s at ≡ 8
     → BreaksRule s E K at stage UnknownForm ↔ ((word s (at + 8) ≡ 0) ⊎ (2 < word s (at + 8)))
-form-refused s E K at stage eight = (there, back)
-  where
-    there : BreaksRule s E K at stage UnknownForm → (word s (at + 8) ≡ 0) ⊎ (2 < word s (at + 8))
-    there (inl x) = inr (x .1)
-    there (inr x) = inl (x .1)
+form-refused s E K at stage eight = form-broken s E K at stage eight
 
-    back : (word s (at + 8) ≡ 0) ⊎ (2 < word s (at + 8)) → BreaksRule s E K at stage UnknownForm
-    back (inl e) = inr (eight, e)
-    back (inr h) = inl (inr eight, h)
+-- the printed reply, and the library's, where 8 is the first rule broken, at a record of kind 8
+module _ (s : List ℕ) (bytes : Bytes s) (place : ℕ) where
+  abbrev refused-8 : Refusal
+  refused-8 = record { rule = UnknownForm; place = place }
+
+  pub planner-8 : ((planText s ≡ refusedLine refused-8) × (kindField s place ≡ 8)) ↔ FormRefused s place
+  planner-8 = Iff·trans (Iff·and (Exactly.refused-printed s bytes refused-8) Iff·rfl) (first-form s place)
+
+  pub judge-8 : ((markText s ≡ refusedLine refused-8) × (kindField s place ≡ 8)) ↔ FormRefused s place
+  judge-8 = Iff·trans (Iff·and (Exactly.refused-marked s bytes refused-8) Iff·rfl) (first-form-both s place)
+
+  pub library-8 : (before : List ℕ)
+      → ((replyFor (outcome s) before ≡ Reply·.Refused refused-8) × (kindField s place ≡ 8)) ↔ FormRefused s place
+  library-8 before =
+      let library = Buffers.library-refused s bytes before refused-8 (λ e. omega (arith, ap ruleNumber e)) in
+      Iff·trans (Iff·and library Iff·rfl) (first-form s place)
 
 -- ---- "It refuses, after 9 in the same record and with the same place, with 20 a guard that isn't an earlier switch."
 
@@ -176,15 +231,19 @@ unfolding position
 after-9 = (guard-after-cost, omega arith)
 
 module _ (s : List ℕ) (bytes : Bytes s) (place : ℕ) where
-  pub planner-20 : (planText s ≡ refusedLine (record { rule = BadGuard; place = place })) ↔ GuardRefused s place
-  planner-20 =
-      let r = Exactly.refused-printed s bytes (record { rule = BadGuard; place = place }) in
-      (λ e. first-guard s _ refl (r .0 e), λ g. r .1 (Reading.FirstRule.in-bytes (in-file (guard-breaks s place g))))
+  abbrev refused-20 : Refusal
+  refused-20 = record { rule = BadGuard; place = place }
 
-  pub judge-20 : (markText s ≡ refusedLine (record { rule = BadGuard; place = place })) ↔ GuardRefused s place
-  judge-20 =
-      let r = Exactly.refused-marked s bytes (record { rule = BadGuard; place = place }) in
-      (λ e. first-guard-both s _ refl (r .0 e), λ g. r .1 (Judging.FirstRuleBoth.in-bytes (in-network (guard-breaks s place g))))
+  pub planner-20 : (planText s ≡ refusedLine refused-20) ↔ GuardRefused s place
+  planner-20 = Iff·trans (Exactly.refused-printed s bytes refused-20) (first-guard s place)
+
+  pub judge-20 : (markText s ≡ refusedLine refused-20) ↔ GuardRefused s place
+  judge-20 = Iff·trans (Exactly.refused-marked s bytes refused-20) (first-guard-both s place)
+
+  pub library-20 : (before : List ℕ) → (replyFor (outcome s) before ≡ Reply·.Refused refused-20) ↔ GuardRefused s place
+  library-20 before =
+      let library = Buffers.library-refused s bytes before refused-20 (λ e. omega (arith, ap ruleNumber e)) in
+      Iff·trans library (first-guard s place)
 
 -- ---- "Where item 1 speaks of a file that passes rules 1 to 13, it must pass 20 as well.": what Request1 asks of files that are rewritten
 
@@ -216,6 +275,20 @@ module _ (s : List ℕ) where
   pub judge-as-ever : ((place : ℕ) → bothInputBy itemOne s ≡ refused (record { rule = KindOutOfPlace; place = place }) → itemOne (kindField s place) ≡ true)
       → markText s ≡ markTextBy itemOne s
   judge-as-ever = AsEver.judge-as-ever itemOne s
+
+  -- so where no record is of kind 8
+  module _ (no-8 : Without 8 s) where
+    known : (n at : ℕ) → Lead s n 0 at → itemOne (kindField s at) ≡ true
+    known n at lead = rw (ne-eqb (kindField s at) 8 (no-8 n at lead))
+
+    pub library-without : outcome s ≡ outcomeBy itemOne s
+    library-without = AsEver.library-of-kinds itemOne s known
+
+    pub planner-without : planText s ≡ planTextBy itemOne s
+    planner-without = AsEver.planner-of-kinds itemOne s known
+
+    pub judge-without : markText s ≡ markTextBy itemOne s
+    judge-without = AsEver.judge-of-kinds itemOne s known
 
   -- the cost of any steps in a network whose file has no link of kind 8
   pub cost-as-ever : (bytes : Bytes s) (n : Network) → AcceptedNetwork s n

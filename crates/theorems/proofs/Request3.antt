@@ -25,8 +25,7 @@ use Rattle.plan_sums.proofs.Loads as Loads
 use Rattle.plan_sums.proofs.Totals as Totals
 use Rattle.plan_lines.specs.Lines.{noneLines}
 use Rattle.planner.specs.Replies.{planTextOf}
-use Rattle.theorems.proofs.Words.{printed-promises}
-use Rattle.theorems.proofs.Exactly as Exactly
+use Rattle.theorems.proofs.Demand2 as Demand2
 use Rattle.theorems.specs.Words.{planText}
 
 -- ---- "However they are made now, the three sums of the `LOAD` line shall come from one pass over the elements;": `sums_after` calls `sums_over` once, which has
@@ -63,6 +62,12 @@ asked-of-each = Loads.shares
 -- ---- "for any n up to E,"
 
 module _ (s : List ℕ) (bytes : Bytes s) (n : Network) (accepted : AcceptedNetwork s n) where
+  -- in any configuration of an accepted network the sums of `sums_after` are those over its first E elements
+  pub sums-after-E : (c : Config) → FirstLoads (netOf n) c (n .elements) (sumsAfter (netOf n) c)
+  unfolding sumsAfter netOf gridOf
+  sums-after-E c =
+      Loads.first-loads (netOf n) (formed-net n (file-formed s bytes n (accepted .file))) c (n .elements) (omega arith)
+
   -- of an accepted network, with lists that tell what is live in a configuration and what is restorable
   module _ (c : Config) (live restorable : List ℕ) (live-long : n .elements ≤ length live) (restorable-long : n .elements ≤ length restorable)
       (tells-live : (e : ℕ) → e < n .elements → (at live e ≡ 1) ↔ Live (netOf n .grid) c e)
@@ -77,10 +82,7 @@ module _ (s : List ℕ) (bytes : Bytes s) (n : Network) (accepted : AcceptedNetw
 
     -- n = E gives the sums of the line, which are those of `sums_after`
     pub line-at-E : sumsAfter (netOf n) c ≡ sumsOver (at (n .load)) (isIn live) (isIn restorable) (n .elements)
-    unfolding sumsAfter netOf gridOf
-    line-at-E =
-        Loads.loads-same (Loads.first-loads (netOf n) (formed-net n (file-formed s bytes n (accepted .file))) c (n .elements) (omega arith))
-        (sums-up-to-E (n .elements) (omega arith))
+    line-at-E = Loads.loads-same (sums-after-E c) (sums-up-to-E (n .elements) (omega arith))
 
   -- in every safe configuration that keeps the fixed links closed they add up to the loads of the first m elements
   module _ (c : Config) (kept : FixedClosed (netOf n) c) (safe : Safe (netOf n .grid) c) where
@@ -95,7 +97,7 @@ module _ (s : List ℕ) (bytes : Bytes s) (n : Network) (accepted : AcceptedNetw
 
   -- after the plan
   pub plan-line : (q : List Step) (cost : ℕ) (l : Sums) → planText s ≡ planTextOf q cost l → FirstLoads (netOf n) (run (netOf n .startClosed) q) (netOf n .grid .E) l
-  plan-line q cost l printed = printed-promises s bytes n accepted q cost l printed .loads .sums
+  plan-line q cost l printed = Demand2.plan-loads s bytes n accepted q cost l printed .sums
 
   pub plan-unchanged : (q : List Step) (cost : ℕ) (l m : Sums) → planText s ≡ planTextOf q cost l
       → FirstLoads (netOf n) (run (netOf n .startClosed) q) (netOf n .grid .E) m → planText s ≡ planTextOf q cost m
@@ -103,7 +105,7 @@ module _ (s : List ℕ) (bytes : Bytes s) (n : Network) (accepted : AcceptedNetw
 
   -- at the start for NONE
   pub none-line : (l : Sums) → planText s ≡ noneLines l → FirstLoads (netOf n) (netOf n .startClosed) (netOf n .grid .E) l
-  none-line l printed = Exactly.none-loads s bytes n accepted l printed .sums
+  none-line l printed = Demand2.none-loads s bytes n accepted l printed .sums
 
   pub none-unchanged : (l m : Sums) → planText s ≡ noneLines l → FirstLoads (netOf n) (netOf n .startClosed) (netOf n .grid .E) m → planText s ≡ noneLines m
   none-unchanged l m printed x = printed ∙ ap noneLines (Loads.loads-same (none-line l printed) x)

@@ -1,17 +1,19 @@
--- Words of the demands that the theorems use: what is printed, how a text begins, and what a plan does on its way.
+-- Words of the demands and requests that the theorems use: what is printed, also where only some kinds are known; where a
+-- record of kind 8 is refused; how a text begins; and what a plan does on its way.
 -- Assumes nothing.
 use mathlib.Core.Path.{_≡_}
 use mathlib.Core.Bool.{Bool, true, not, _&&_}
 use mathlib.Core.List.{List, _∷_, _++_}
+use mathlib.Core.Logic.{_⊎_}
 use Prim.Native.Nat.{ℕ, _+_, _<_, _≤_}
 use lib.Dec.{eqb}
 use Rattle.network.specs.declared.refusal.Rule.{Rule}
-use Rattle.network.specs.declared.refusal.Rule.the-variants.{BadGuard}
+use Rattle.network.specs.declared.refusal.Rule.the-variants.{UnknownForm, BadGuard}
 use Rattle.network.specs.Refusals.{Sooner}
 use Rattle.file_stages.specs.declared.Stage.{Stage}
 use Rattle.file_fields.specs.Fields.{word}
 use Rattle.file_records.specs.Records.{kindField}
-use Rattle.file_refusals.specs.Breaking.{BreaksRule, EarlierSwitch}
+use Rattle.file_refusals.specs.Breaking.{Lead, BreaksRule, EarlierSwitch}
 use Rattle.file_refusals.specs.Files.{networkStages, Stand}
 use Rattle.feeding.specs.Networks.{Net}
 use Rattle.feeding.specs.Parts.{Joined, Sound, Live}
@@ -53,15 +55,30 @@ itemOne kind = not (eqb kind 8)
 abbrev pub documentOne : ℕ → Bool
 documentOne kind = itemOne kind && not (eqb kind 7)
 
--- "It refuses, after 9 in the same record and with the same place, with 20 a guard that isn't an earlier switch.": the records of the network file stand up to
--- this place, and the one there is of kind 8, breaks no rule that is checked sooner, and names a guard that is no earlier switch
-pub record GuardRefused (s : List ℕ) (place : ℕ) : Type 0 where
+-- no record of s, one behind the other by their lengths, is of this kind
+abbrev pub Without : ℕ → List ℕ → Type 0
+Without kind s = (n at : ℕ) → Lead s n 0 at → ¬ (kindField s at ≡ kind)
+
+-- the records of the network file stand up to this place, and the one there breaks no rule that is checked sooner
+-- than r
+pub record StandsTo (s : List ℕ) (place : ℕ) (r : Rule) : Type 0 where
   pub front : List Stage
   pub stage : Stage
   pub rest : List Stage
   pub whole : networkStages (word s 4) (word s 6) ≡ front ++ (stage ∷ rest)
   pub before : Stand s (word s 4) (word s 6) front 0 place
-  pub sooner : (q : Rule) → Sooner q BadGuard → ¬ BreaksRule s (word s 4) (word s 6) place stage q
+  pub sooner : (q : Rule) → Sooner q r → ¬ BreaksRule s (word s 4) (word s 6) place stage q
+
+-- "Form 0 breaks rule 8 here.": the record there is of kind 8, and its form is 0, or above 2 as for any link
+pub record FormRefused (s : List ℕ) (place : ℕ) : Type 0 where
+  pub due : StandsTo s place UnknownForm
+  pub kind : kindField s place ≡ 8
+  pub form : (word s (place + 8) ≡ 0) ⊎ (2 < word s (place + 8))
+
+-- "It refuses, after 9 in the same record and with the same place, with 20 a guard that isn't an earlier switch.": the
+-- record there is of kind 8, and names a guard that is no earlier switch
+pub record GuardRefused (s : List ℕ) (place : ℕ) : Type 0 where
+  pub due : StandsTo s place BadGuard
   pub kind : kindField s place ≡ 8
   pub guard : ¬ EarlierSwitch s (word s 4) place (word s (place + 12))
 

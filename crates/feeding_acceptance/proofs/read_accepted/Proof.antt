@@ -1,4 +1,4 @@
--- Rules 1 to 13, then 14 to 18: what was read is well formed, so it can be judged.
+-- Rules 1 to 13 and 20, then 14 to 18: what was read is well formed, so it can be judged.
 -- Assumes nothing.
 use mathlib.Core.Path.{ap, _∙_}
 use native.Mathlib.Omega.{arith}

@@ -1,4 +1,4 @@
--- `file_records::record_due` finds rules 1 to 12 in their order: the record reader, then the rules of the kind.
+-- `file_records::record_due` finds rules 1 to 12 and 20 in their order: the record reader, then the rules of the kind.
 -- Assumes nothing.
 use mathlib.Core.Path.{sym, _∙_}
 use Rattle.file_fields.specs.Views.{seenOf}

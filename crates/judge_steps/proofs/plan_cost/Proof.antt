@@ -137,10 +137,10 @@ loop-again c =
     let pre· = c .before .before .before .before .before .before .before .pre in
     let loop· = c .before .before .before .before .loop in
     ⊎-elim
-    (λ w. paid-new (args· .net) (pre· .0) (args· .t2) (pre· .1) (loop· .paid) (loop· .sum) (loop· .i) (loop· .inv) (omega arith) (loop· .i + 1) (omega arith) (w .0 .taken) (w .1 .taken) _ _ (w .2) (w .3))
+    (λ w. paid-new (args· .net) (pre· .0) (args· .t2) (pre· .1) (loop· .paid) (loop· .sum) (loop· .i) (loop· .inv) (omega arith) (loop· .i + 1) (omega arith) (omega arith) (omega arith) _ _ (w .2) (w .3))
     (⊎-elim
-    (λ w. paid-again (args· .net) (pre· .0) (args· .t2) (pre· .1) (loop· .paid) (loop· .sum) (loop· .i) (loop· .inv) (omega arith) (loop· .i + 1) (omega arith) (w .0 .taken) (w .1 .left) _ _ (w .2) (w .3))
-    (λ w. paid-free (args· .net) (pre· .0) (args· .t2) (pre· .1) (loop· .paid) (loop· .sum) (loop· .i) (loop· .inv) (omega arith) (loop· .i + 1) (omega arith) (w .0 .left) _ _ (w .1) (w .2)))
+    (λ w. paid-again (args· .net) (pre· .0) (args· .t2) (pre· .1) (loop· .paid) (loop· .sum) (loop· .i) (loop· .inv) (omega arith) (loop· .i + 1) (omega arith) (omega arith) (omega arith) _ _ (w .2) (w .3))
+    (λ w. paid-free (args· .net) (pre· .0) (args· .t2) (pre· .1) (loop· .paid) (loop· .sum) (loop· .i) (loop· .inv) (omega arith) (loop· .i + 1) (omega arith) (omega arith) _ _ (w .1) (w .2)))
     (c .if1 .came)
 
 returns : tie.Need-returns Inv-loop μ-loop

@@ -1,9 +1,10 @@
 -- The sums over all elements: the sets that are handed over have the elements that the definition names.
 -- Assumes nothing.
-use mathlib.Core.Path.{sym, _∙_}
+use mathlib.Core.Path.{_∙_}
+use native.Mathlib.Omega.{arith}
 use Rattle.feeding_restoration.proofs.Reach.{bits-long, network-joins}
 use Rattle.feeding_start.proofs.Starts.{sound-of, restorable-of, live-after}
-use Rattle.plan_sums.proofs.Totals.{loads-reach, sums-are}
+use Rattle.plan_sums.proofs.Totals.{restorable-long, lists-reach, sums-are}
 use borrow.Author.Needs.{needs}
 use Rattle.plan_sums.proofs.sums_after.Statement.{statement}
 use Rattle.plan_sums.proofs.sums_after.Tie as tie
@@ -32,20 +33,21 @@ slice-aggregate-sums-over c =
 
 slice-aggregate-sums-over-2 : tie.Need-slice-aggregate-sums-over-2
 slice-aggregate-sums-over-2 c =
-    search needs
+    search (needs, restorable-long)
 
 slice-aggregate-sums-over-3 : tie.Need-slice-aggregate-sums-over-3
 slice-aggregate-sums-over-3 c =
-    let args· = c .before .before .before .before .before .before .before .before .before .before .before .before .before .before .args in
-    let pre· = c .before .before .before .before .before .before .before .before .before .before .before .before .before .before .pre in
-    sym (bits-long _ _ _ (restorable-of (args· .start) _ (pre· .0 .made)))
+    search (needs, restorable-long)
 
+-- whatever sets of 96 entries are handed over, they reach over the elements
 sums-over-requires : tie.Need-sums-over-requires
 sums-over-requires c κs =
     let args· = c .before .before .before .before .before .before .before .before .before .before .before .before .before .before .args in
     let pre· = c .before .before .before .before .before .before .before .before .before .before .before .before .before .before .pre in
-    let joined-to· = c .before .before .before .joined-to in
-    loads-reach (args· .start .net) (pre· .0 .formed) (args· .closed .now) (joined-to· .result) (args· .start .restorable) (joined-to· .ensures ∙ live-after (args· .start) _ (pre· .0 .made) (pre· .0 .formed) (args· .closed .now)) (restorable-of (args· .start) _ (pre· .0 .made))
+    let live-long = bits-long _ _ _ (c .before .before .before .joined-to .ensures) in
+    let restorable-long· = restorable-long (args· .start) (pre· .0) in
+    let fit = pre· .0 .formed .elements-fit in
+    lists-reach (args· .start .net) (pre· .0 .formed) _ _ _ (omega arith) (omega arith) (omega arith)
 
 returns : tie.Need-returns
 returns c =

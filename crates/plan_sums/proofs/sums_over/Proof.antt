@@ -1,36 +1,24 @@
 -- `sums_over` meets its contract. The loop's invariant: the three sums are those over the elements below e.
 -- Assumes nothing.
-use mathlib.Core.Path.{_≡_, sym}
-use mathlib.Core.Logic.{_⊎_, ⊎-elim}
+use mathlib.Core.Logic.{⊎-elim}
 use Prim.Native.Nat.{_≤_, _-_}
 use native.Mathlib.Omega.{arith}
 use Rattle.feeding.specs.Networks.{at, isIn}
-use Rattle.plan_sums.specs.Sums.{loadOver}
-use Rattle.plan_sums.proofs.Totals.{load-none, load-most, darkIn, lostIn, fed-on, fed-off, dark-on, dark-live, dark-off, lost-on, lost-off, sums-at}
+use Rattle.plan_sums.proofs.Totals.{SumsTo, sums-none, fed-fits, dark-fits, lost-fits, fed-on, fed-off, dark-on, dark-live, dark-off, lost-on, lost-off, sums-at}
 use Rattle.plan_sums.proofs.sums_over.Statement.{statement}
 use Rattle.plan_sums.proofs.sums_over.Tie as tie
 
--- the elements that a test leaves out first: a chain of tests leaves out too many
-left-out : {A B C : Type 0} → (B → C) → (A → C) → A ⊎ B → C
-left-out off on = ⊎-elim on off
-
 abbrev Inv-loop : tie.InvT-loop
 Inv-loop load live restorable count fed₀ dark₀ lost₀ e₀ fed dark lost e =
-    (e ≤ count) × (fed ≡ loadOver (at load) (isIn live) e) × (dark ≡ loadOver (at load) (darkIn live restorable) e) × (lost ≡ loadOver (at load) (lostIn restorable) e)
+    SumsTo load live restorable e fed dark lost × (e ≤ count)
 
 abbrev μ-loop : tie.MeasureT-loop
 μ-loop load live restorable count fed₀ dark₀ lost₀ e₀ fed dark lost e =
-    count - e
+    64 - e
 
 loop-holds : tie.Need-loop-holds Inv-loop μ-loop
 loop-holds c =
-    let args· = c .args in
-    let load = at (args· .load .now) in (
-      omega arith,
-      sym (load-none load (isIn (args· .live .now))),
-      sym (load-none load (darkIn (args· .live .now) (args· .restorable .now))),
-      sym (load-none load (lostIn (args· .restorable .now))),
-    )
+    (sums-none _ _ _ (omega arith) (omega arith) (omega arith) (omega arith), omega arith)
 
 mul-own : tie.Need-mul-own Inv-loop μ-loop
 mul-own c =
@@ -55,30 +43,15 @@ shared-slice-read-is-restorable c =
 
 add-fed : tie.Need-add-fed Inv-loop μ-loop
 add-fed c =
-    let pre· = c .before .before .before .before .before .before .pre in
-    let loop· = c .before .before .before .before .before .loop in
-    let args· = c .before .before .before .before .before .before .args in
-    let below = pre· .load-in (loop· .e) (omega arith) in
-    let most = load-most (at (args· .load .now)) (isIn (args· .live .now)) (loop· .e) (λ i k. pre· .load-in i (omega arith)) in
-    omega arith
+    search (fed-fits, arith)
 
 add-dark : tie.Need-add-dark Inv-loop μ-loop
 add-dark c =
-    let pre· = c .before .before .before .before .before .before .before .before .pre in
-    let loop· = c .before .before .before .before .before .before .before .loop in
-    let args· = c .before .before .before .before .before .before .before .before .args in
-    let below = pre· .load-in (loop· .e) (omega arith) in
-    let most = load-most (at (args· .load .now)) (darkIn (args· .live .now) (args· .restorable .now)) (loop· .e) (λ i k. pre· .load-in i (omega arith)) in
-    omega arith
+    search (dark-fits, arith)
 
 add-lost : tie.Need-add-lost Inv-loop μ-loop
 add-lost c =
-    let pre· = c .before .before .before .before .before .before .before .before .pre in
-    let loop· = c .before .before .before .before .before .before .before .loop in
-    let args· = c .before .before .before .before .before .before .before .before .args in
-    let below = pre· .load-in (loop· .e) (omega arith) in
-    let most = load-most (at (args· .load .now)) (lostIn (args· .restorable .now)) (loop· .e) (λ i k. pre· .load-in i (omega arith)) in
-    omega arith
+    search (lost-fits, arith)
 
 add-e : tie.Need-add-e Inv-loop μ-loop
 add-e c =
@@ -95,29 +68,42 @@ loop-again c =
     let load = args· .load .now in
     let live = args· .live .now in
     let restorable = args· .restorable .now in
-    let e = loop· .e in (
+    let e = loop· .e in
+    let sums = loop· .inv .0 in (
+      record {
+        fed-is = ⊎-elim
+            (λ w. fed-on load live restorable e (loop· .fed) _ (sums .fed-is) (omega arith) (omega arith))
+            (λ w. fed-off load live restorable e (loop· .fed) _ (sums .fed-is) (omega arith) (omega arith))
+            (c .before .before .if1 .came);
+        dark-is = ⊎-elim
+            (λ w. dark-on load live restorable e (loop· .dark) _ (sums .dark-is)
+            (omega arith) (omega arith) (omega arith))
+            (⊎-elim
+            (λ w. dark-live load live restorable e (loop· .dark) _ (sums .dark-is) (omega arith) (omega arith))
+            (λ w. dark-off load live restorable e (loop· .dark) _ (sums .dark-is) (omega arith) (omega arith)))
+            (c .before .if2 .came);
+        -- asked apart of what is live and what is not, since a chain of tests tells them apart
+        lost-is = ⊎-elim
+            (λ v. ⊎-elim
+            (λ w. lost-on load live restorable e (loop· .lost) _ (sums .lost-is) (omega arith) (omega arith))
+            (λ w. lost-off load live restorable e (loop· .lost) _ (sums .lost-is) (omega arith) (omega arith))
+            (c .if4 .came))
+            (λ v. ⊎-elim
+            (λ w. lost-on load live restorable e (loop· .lost) _ (sums .lost-is) (omega arith) (omega arith))
+            (λ w. lost-off load live restorable e (loop· .lost) _ (sums .lost-is) (omega arith) (omega arith))
+            (c .if4 .came))
+            (c .before .before .if1 .came);
+      },
       omega arith,
-      ⊎-elim
-          (λ w. fed-on load live restorable e (loop· .fed) _ (loop· .inv .1) (omega arith) (omega arith))
-          (λ w. fed-off load live restorable e (loop· .fed) _ (loop· .inv .1) (omega arith) (omega arith))
-          (c .before .before .if1 .came),
-      ⊎-elim
-          (λ w. dark-on load live restorable e (loop· .dark) _ (loop· .inv .2) (omega arith) (omega arith) (omega arith))
-          (⊎-elim
-          (λ w. dark-live load live restorable e (loop· .dark) _ (loop· .inv .2) (omega arith) (omega arith))
-          (λ w. dark-off load live restorable e (loop· .dark) _ (loop· .inv .2) (omega arith) (omega arith)))
-          (c .before .if2 .came),
-      left-out
-          (λ w. lost-off load live restorable e (loop· .lost) _ (loop· .inv .3) (omega arith) (omega arith))
-          (λ w. lost-on load live restorable e (loop· .lost) _ (loop· .inv .3) (omega arith) (omega arith))
-          (c .if4 .came),
     )
 
 returns : tie.Need-returns Inv-loop μ-loop
 returns c =
     let loop· = c .before .loop in
     let args· = c .before .before .args in
-    sums-at (at (args· .load .now)) (isIn (args· .live .now)) (isIn (args· .restorable .now)) (loop· .e) _ (omega arith) (loop· .inv .1) (loop· .inv .2) (loop· .inv .3)
+    let sums = loop· .inv .0 in
+    sums-at (at (args· .load .now)) (isIn (args· .live .now)) (isIn (args· .restorable .now)) (loop· .e) _
+    (omega arith) (sums .fed-is) (sums .dark-is) (sums .lost-is)
 
 pub sums-over-spec : {M : Type 1} → statement M
 sums-over-spec =
