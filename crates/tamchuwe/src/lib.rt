@@ -106,8 +106,8 @@ pub extern "C" fn tamchuwe_final_text(input: &[u8], out: &mut [u8]) -> usize
     ensures { λ _. ⌜ FinalReply (now (input .entry)) (decidedLines (finalFor (now (input .entry)))) ⌝ }
 {
     let mut text: [u8; 4096] = [0; 4096];
-    let length = final_text(input, &mut text);
-    put_if_it_fits(&text[..length], out)
+    let written = final_text(input, &mut text);
+    put_if_it_fits(&text[..written], out)
 }
 
 // A trial final of files lent apart: the same, and the part by its offset in its own file.
@@ -143,6 +143,6 @@ pub extern "C" fn tamchuwe_final_apart_text(
     ensures { λ _. ⌜ FilesReply (now (network .entry)) (now (first .entry)) (now (second .entry)) (decidedLines (filesFor (now (network .entry)) (now (first .entry)) (now (second .entry)))) ⌝ }
 {
     let mut text: [u8; 4096] = [0; 4096];
-    let length = files_text(network, first, second, &mut text);
-    put_if_it_fits(&text[..length], out)
+    let written = files_text(network, first, second, &mut text);
+    put_if_it_fits(&text[..written], out)
 }
