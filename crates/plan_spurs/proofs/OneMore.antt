@@ -9,7 +9,7 @@ use lib.Dec.{leb, ltb}
 use lib.ListN.{length, set, length-set}
 use borrow.Author.Tests.{lt-ltb, le-ltb, eq-eqb, ne-eqb}
 use Rattle.feeding.proofs.Below.{and-both, and-left, and-right}
-use Rattle.feeding.proofs.Margins.{borne-test, le-borne, lt-borne, borne-true}
+use Rattle.feeding.proofs.Margins.{le-borne, lt-borne, borne-true}
 use Rattle.feeding.specs.Loads.{borne?}
 use Rattle.feeding.specs.Networks.{at, isIn}
 use Rattle.feeding_ends.specs.declared.OwnEnds.{OwnEnds}
@@ -61,9 +61,9 @@ pub too-much : (x y u v : ℕ) → y < x → false ≡ bearsBoth x y u v
 unfolding bearsBoth
 too-much x y u v h = rw (lt-borne y x h)
 
-pub both-borne : (x y u v : ℕ) → x ≤ y → leb (u + x) v ≡ bearsBoth x y u v
+pub both-borne : (x y u v : ℕ) → x ≤ y → borne? v (u + x) ≡ bearsBoth x y u v
 unfolding bearsBoth
-both-borne x y u v h = rw (le-borne y x h) (sym (borne-test v (u + x)))
+both-borne x y u v h = rw (le-borne y x h)
 
 -- ---- one element more
 
