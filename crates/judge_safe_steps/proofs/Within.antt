@@ -3,7 +3,6 @@
 use Prim.Native.Nat.{ℕ, zero, suc, _*_, _≤_, _<_}
 use mathlib.Core.Path.{_≡_, refl, ap, subst}
 use mathlib.Core.Bool.{Bool, true, false, not}
-use lib.Dec.{ltb}
 use borrow.Author.Tests.{ltb-false, le-ltb, not-true}
 use native.Mathlib.Omega.{arith}
 use Rattle.feeding.specs.Below.{leastTo}

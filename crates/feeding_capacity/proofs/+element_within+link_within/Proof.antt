@@ -170,8 +170,7 @@ element-within-loop-holds t c =
     let own : at (args· .rating .now) (args· .e) < 2 ^ 63 = omega (arith, c .before .before .before .before .shared-slice-known2 .given (args· .e)) in
     let small : room-at· .result < 2 ^ 63 = omega (arith, room-at· .ensures, c .before .before .before .before .before .before .shared-slice-known .given (64 + args· .e)) in
     let margin-of· = c .before .before .before .margin-of in
-    let tested = not-below (room-at· .result) (at (args· .rating .now) (args· .e)) (margin-of· .result) small own (margin-of· .ensures) (c .before .before .if1 .left) in
-    (
+    let tested = not-below (room-at· .result) (at (args· .rating .now) (args· .e)) (margin-of· .result) small own (margin-of· .ensures) (c .before .before .if1 .left) in (
       held-none (args· .elements) (args· .links) (farOf (args· .chain .now)) (args· .closed .now) (loadOf (args· .rating .now)) (capacityOf (args· .rating .now)) (args· .depth - 1) (args· .e) (args· .via) (omega arith) (moved (part-at 0 64 (args· .rating .now) (args· .e) (args· .e) (omega arith) (omega arith)) (part-at 0 64 (args· .chain .now) (args· .e) (args· .e) (omega arith) (omega arith))
           (turn-start (headOf (args· .chain .now)) (nextOf (args· .chain .now)) (farOf (args· .chain .now)) (args· .closed .now) (loadOf (args· .rating .now)) (capacityOf (args· .rating .now)) (args· .elements) (args· .links) (pre· .1 .0) (args· .depth - 1) (args· .e) (args· .via) (omega arith))),
       tested,
