@@ -10,6 +10,7 @@ use Rattle.feeding.specs.Networks.{Grid, Formed, withCapacity}
 use Rattle.feeding.specs.Parts.{Config, Joined, here, over, Sound, Live, touches, far}
 use Rattle.feeding.specs.Safety.{Safe}
 use Rattle.feeding.proofs.Load.{fed-in}
+use Rattle.feeding.proofs.Margins.{bears-le, le-bears}
 use Rattle.feeding.proofs.Sums.{sumTo-ext}
 
 module _ (g : Grid) (cap : ℕ → ℕ) where
@@ -70,9 +71,9 @@ module _ (g : Grid) (cap : ℕ → ℕ) where
   -- and the load test passes on where no capacity is lowered
   pub raised-within : Formed g → ((e : ℕ) → e < g .E → g .capacity e ≤ cap e) → (c : Config) → Within g c → Within other c
   raised-within formed raised c within e via f =
-      omega (
+      le-bears other e _ (omega (
         arith,
         element-load-same g cap c (2 * g .E) e via,
-        within e via (fed-from f),
+        bears-le g e _ (within e via (fed-from f)),
         raised e (fed-in g c formed (fed-from f)),
-      )
+      ))

@@ -13,6 +13,8 @@ pub mod Joins
 pub mod Labels
 pub mod Load
 pub mod Lows
+pub mod Margins
+pub mod Tightest
 pub mod Opening
 pub mod OtherGuards
 pub mod Overloads

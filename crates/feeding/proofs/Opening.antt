@@ -9,6 +9,7 @@ use Rattle.feeding.specs.Networks.{Grid}
 use Rattle.feeding.specs.Parts.{Opened, Live, Config, Joined, here, over, far}
 use Rattle.feeding.specs.Safety.{Safe, without}
 use Rattle.feeding.proofs.Below.{gate-mono, and-left, and-right, and-both}
+use Rattle.feeding.proofs.Margins.{bears-le, le-bears}
 use Rattle.feeding.proofs.Sums.{sumTo-mono}
 
 module _ (g : Grid) (c′ c : Config) (sub : Opened c′ c) where
@@ -50,7 +51,8 @@ live-mono g c′ c sub e r = record { source = r .source; sound = r .sound; join
 -- the theorem: a configuration that closes no link which a safe one leaves open is safe
 -- opening keeps loads within capacity
 pub opened-within : (g : Grid) (c′ c : Config) → Opened c′ c → Within g c → Within g c′
-opened-within g c′ c sub within e via f = omega (arith, elementLoad-mono g c′ c sub (2 * g .E) e via, within e via (fed-mono g c′ c sub f))
+opened-within g c′ c sub within e via f =
+    le-bears g e _ (omega (arith, elementLoad-mono g c′ c sub (2 * g .E) e via, bears-le g e _ (within e via (fed-mono g c′ c sub f))))
 
 pub opening-safe : (g : Grid) (c′ c : Config) → Opened c′ c → Safe g c → Safe g c′
 opening-safe g c′ c sub s = record {

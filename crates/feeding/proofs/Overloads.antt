@@ -5,7 +5,7 @@ use mathlib.Core.Path.{_≡_, refl, sym, ap, _∙_, subst}
 use mathlib.Core.Logic.{_⊎_, inl, inr}
 use mathlib.Core.Bool.{Bool, true, false}
 use lib.Dec.{ltb}
-use borrow.Author.Tests.{ltb-true, ltb-false, leb-true, leb-false}
+use borrow.Author.Tests.{ltb-true, ltb-false}
 use native.Mathlib.Omega.{arith}
 use Rattle.feeding.specs.Below.{leastTo, Lowest}
 use Rattle.feeding.specs.Loads.{leads, Fed, at-source, onward, elementLoad, loadAt, Bears, bears?, Within, Overloaded, above, elementOver, lowestOver}
@@ -14,19 +14,9 @@ use Rattle.feeding.specs.Parts.{Config, far, Sound, sound?}
 use Rattle.feeding.proofs.Forest.{Bridges}
 use Rattle.feeding.proofs.Load.{same-load, fed-came, fed-in}
 use Rattle.feeding.proofs.Lows.{leastTo-top, leastTo-le, leastTo-or, none-below}
+use Rattle.feeding.proofs.Margins.{bears?-in, bears?-out, bears?-none}
 use Rattle.feeding.proofs.Tests.{sound?-in, sound?-out}
 use Rattle.feeding.proofs.Walk.{room, room-le, room-shrinks, room-pos}
-
--- the load test tells whether an element bears a load
-pub bears?-out : (g : Grid) (e x : ℕ) → bears? g e x ≡ false → ¬ Bears g e x
-bears?-out g e x t h = let more = leb-false x (g .capacity e) t in omega arith
-
-pub bears?-none : (g : Grid) (e x : ℕ) → ¬ Bears g e x → bears? g e x ≡ false
-bears?-none g e x above-it = go (bears? g e x) refl
-  where
-    go : (t : Bool) → bears? g e x ≡ t → t ≡ false
-    go true t = absurd (above-it (leb-true x (g .capacity e) t))
-    go false t = refl
 
 above-out : (g : Grid) (e x : ℕ) → above g e x < g .E → (¬ Bears g e x) × (above g e x ≡ e)
 unfolding above
@@ -191,6 +181,6 @@ pub none-over : (g : Grid) (formed : Formed g) (c : Config) (bridges : Bridges g
 none-over g formed c bridges none e via f = go (bears? g e (loadAt g c e via)) refl
   where
     go : (t : Bool) → bears? g e (loadAt g c e via) ≡ t → Bears g e (loadAt g c e via)
-    go true t = leb-true _ _ t
+    go true t = bears?-in g e _ t
     go false t = absurd (none-below (g .E) _ _ (over-lowest g formed c bridges) none e (fed-in g c formed f)
         (record { via = via; fed = f; above = bears?-out g e _ t }))

@@ -5,12 +5,12 @@ use mathlib.Core.Bool.{Bool, not, _&&_}
 use mathlib.Core.List.{List}
 use Prim.Native.Nat.{ℕ, zero, suc, _+_, _*_, _<_, _≤_, min}
 use native.Mathlib.Omega.{arith}
-use lib.Dec.{eqb, leb}
+use lib.Dec.{eqb}
 use Rattle.network.specs.declared.refusal.Answer.the-variants.{Accepted}
 use Rattle.network.specs.declared.refusal.Rule.the-variants.{NotATree, TwoSources, FaultWithSource, Overloaded}
 use Rattle.feeding.specs.Acceptance.{brokenAt, safety}
 use Rattle.feeding.specs.Below.{gate, sumTo, leastTo}
-use Rattle.feeding.specs.Loads.{leads, elementLoad, linkLoad, above, elementOver, linkOver, lowestOver}
+use Rattle.feeding.specs.Loads.{borne?, leads, elementLoad, linkLoad, above, elementOver, linkOver, lowestOver}
 use Rattle.feeding.specs.Networks.{Grid, Formed, at}
 use Rattle.feeding.specs.Parts.{Config, touches, far, labelsAfter, label, joined?, sound?, live?}
 use Rattle.feeding.specs.Safety.{loopAt, looped?, paired?, faultLive?, treePlace, pairPlace, faultPlace}
@@ -44,7 +44,7 @@ module _ (g g′ : Grid) (formed : Formed g) (same : Alike g g′) (c c′ : Con
 
   above-alike : (e x x′ : ℕ) → e < g .E → x ≡ x′ → above g e x ≡ above g′ e x′
   unfolding above
-  above-alike e x x′ k q = ap₂ (λ (t : Bool) (z : ℕ). orElse e t z) (ap₂ leb q (same .capacities e k)) (same .elements)
+  above-alike e x x′ k q = ap₂ (λ (t : Bool) (z : ℕ). orElse e t z) (ap₂ borne? (same .capacities e k) q) (same .elements)
 
   mutual
     unfolding elementLoad linkLoad

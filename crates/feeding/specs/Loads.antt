@@ -3,7 +3,9 @@
 use mathlib.Core.Path.{_≡_}
 use mathlib.Core.Bool.{Bool, true, false, not, _&&_}
 use Prim.Native.Nat.{ℕ, zero, suc, _+_, _*_, _<_, _≤_, min}
-use lib.Dec.{eqb, ltb, leb}
+use lib.Dec.{eqb, ltb}
+use lib.IntN.{ℤ, pos, _-ℤ_}
+use lib.Signed.{leZ, _≤ℤ_}
 use Rattle.feeding.specs.Below.{sumTo, leastTo}
 use Rattle.feeding.specs.Networks.{Grid}
 use Rattle.feeding.specs.Parts.{Config, touches, far, Sound, sound?}
@@ -38,12 +40,21 @@ pub record FedOnce (g : Grid) (c : Config) (e : ℕ) : Type 0 where
   pub fed : Fed g c e via
   pub only : (w : ℕ) → Fed g c e w → w ≡ via
 
--- The one place where a load meets a capacity: the element e bears the load x.
+-- Document 02, item 5: "The load test of an element .. gives capacity minus load as a signed number". The one place where a load
+-- meets a capacity.
+unfoldable pub margin : (capacity load : ℕ) → ℤ
+margin capacity load = pos capacity -ℤ pos load
+
+-- it is not negative
+abbrev pub borne? : (capacity load : ℕ) → Bool
+borne? capacity load = leZ (pos 0) (margin capacity load)
+
+-- the element e bears the load x; `bears-le` and `le-bears` say that the load is then at most the capacity, and the other way round
 abbrev pub Bears : Grid → ℕ → ℕ → Type 0
-Bears g e x = x ≤ g .capacity e
+Bears g e x = pos 0 ≤ℤ margin (g .capacity e) x
 
 abbrev pub bears? : Grid → ℕ → ℕ → Bool
-bears? g e x = leb x (g .capacity e)
+bears? g e x = borne? (g .capacity e) x
 
 -- "the load at each live element is at most its capacity"
 abbrev pub Within : Grid → Config → Type 0
@@ -54,6 +65,22 @@ pub record Overloaded (g : Grid) (c : Config) (e : ℕ) : Type 0 where
   pub via : ℕ
   pub fed : Fed g c e via
   pub above : ¬ Bears g e (loadAt g c e via)
+
+-- the margin of e, reached over `via`
+abbrev pub marginAt : Grid → Config → ℕ → ℕ → ℤ
+marginAt g c e via = margin (g .capacity e) (loadAt g c e via)
+
+-- e is live, and its margin is m
+pub record MarginOf (g : Grid) (c : Config) (e : ℕ) (m : ℤ) : Type 0 where
+  pub via : ℕ
+  pub fed : Fed g c e via
+  pub is : m ≡ marginAt g c e via
+
+-- "the live element with the least margin .., lowest element on a tie"
+pub record Tightest (g : Grid) (c : Config) (e : ℕ) (m : ℤ) : Type 0 where
+  pub own : MarginOf g c e m
+  pub least : (x : ℕ) (k : ℤ) → MarginOf g c x k → m ≤ℤ k
+  pub lowest : (x : ℕ) → MarginOf g c x m → e ≤ x
 
 -- ---- what computes: the lowest overloaded element from e onward, and over the link l away from e; E where there is none
 

@@ -14,6 +14,7 @@ use Rattle.feeding.specs.Parts.{Config, closedIn, touches, far}
 use Rattle.feeding.specs.Loads.{leads, elementLoad, linkLoad, elementOver, linkOver}
 use Rattle.feeding.proofs.Below.{and-both, orElse}
 use Rattle.feeding.proofs.Lows.{leastTo-le}
+use Rattle.feeding.proofs.Margins.{bears-le}
 use Rattle.feeding.proofs.Overloads.{above-in}
 use Rattle.feeding_loads.specs.Walks.{nearAt, walkGrid, Lent, lowerOver, elementCarried}
 use Rattle.feeding_loads.specs.declared.Carried.{Carried}
@@ -67,8 +68,8 @@ fits-so false x room h = go (ltb room x) refl h
 
 -- the element itself is found where its load is above its capacity
 here-over : (g : Grid) (c : Config) (d e via : ℕ) → e < g .E → g .capacity e < elementLoad g c d e via → elementOver g c d e via < g .E
-here-over g c zero e via k h = omega (arith, over-none g c e via, load-none g c e via, above-in g e (g .load e) (λ x. omega (arith, load-none g c e via)))
-here-over g c (suc d) e via k h = omega (arith, over-more g c d e via, above-in g e (elementLoad g c (suc d) e via) (λ x. omega arith))
+here-over g c zero e via k h = omega (arith, over-none g c e via, load-none g c e via, above-in g e (g .load e) (λ x. omega (arith, bears-le g e _ x, load-none g c e via)))
+here-over g c (suc d) e via k h = omega (arith, over-more g c d e via, above-in g e (elementLoad g c (suc d) e via) (λ x. omega (arith, bears-le g e _ x)))
 
 -- at least x comes to e, which is above its capacity or the room
 too-much : (g : Grid) (c : Config) (d e via room x : ℕ) → e < g .E → x ≤ elementLoad g c d e via → min (g .capacity e) room < x

@@ -1,4 +1,5 @@
 // Whether every element that a source feeds stays within its capacity: a walk away from it that stops at the first element that does not.
+use feeding_load_test::margin_of;
 ghost use mathlib.Core.Path.{_≡_};
 ghost use Prim.Native.Nat.{_+_, _<_, _≤_, _*_, min};
 ghost use Rattle.feeding.specs.Parts.{closedIn};
@@ -44,7 +45,7 @@ fn element_within<'a>(
     let ratings: &[u32] = rating;
     let most = room_at(ratings[64 + e], room);
     let mut sum = ratings[e] as u64;
-    if sum > most {
+    if margin_of(sum, most) < 0 {
         return OVERLOADED;
     }
     if depth == 0 {

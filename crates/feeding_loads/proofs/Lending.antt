@@ -14,7 +14,7 @@ use Rattle.feeding_loads.specs.Walks.{endsA, endsB, nearAt, walkGrid, Sk
 use Rattle.feeding_loads.specs.declared.Carried.{Carried}
 use Rattle.feeding_ends.specs.Ends.{endAt}
 use Rattle.feeding_ends.proofs.Chains.{end-even, end-odd}
-use Rattle.feeding_loads.proofs.Rounds.{Walked, walked-start, walked-on, walked-open, walked-via}
+use Rattle.feeding_loads.proofs.Rounds.{Walked, walked-start, walked-on, walked-open, walked-via, walked-load, load-none}
 use Rattle.feeding_loads.proofs.Rounds.{walked-room, walked-done, element-none, link-none, link-more, link-load}
 
 -- what the two answers hold
@@ -54,11 +54,23 @@ module _ (head next far closed load capacity : List ℕ) (E K : ℕ) (lent : Len
   unfolding walkGrid
   turn-none depth over k z q = rw (z, q) (element-none (walkGrid E K far load capacity) (closedIn closed) e via k)
 
+  -- the own load is then the load
+  pub turn-own : (depth : ℕ) → depth ≡ 0 → at load e ≡ elementLoad (walkGrid E K far load capacity) (closedIn closed) depth e via
+  unfolding walkGrid
+  turn-own depth z = rw z (sym (load-none (walkGrid E K far load capacity) (closedIn closed) e via))
+
   module _ (sum over j : ℕ) (w : Walked (walkGrid E K far load capacity) (closedIn closed) d e via sum over j) where
     pub turn-done : (depth over′ : ℕ) → 192 ≤ j → suc d ≡ depth → over′ ≡ lowerOver e sum (at capacity e) over
         → record { load = sum; over = over′ } ≡ elementCarried (walkGrid E K far load capacity) (closedIn closed) depth e via
     unfolding walkGrid
     turn-done depth over′ k z q = rw (← z, q) (walked-done (walkGrid E K far load capacity) (lent-formed head next far closed load capacity E K lent)
+        (closedIn closed) d e via sum over j w k (lent .fit))
+
+    -- the sum is then the load
+    pub turn-sum : (depth : ℕ) → 192 ≤ j → suc d ≡ depth
+        → sum ≡ elementLoad (walkGrid E K far load capacity) (closedIn closed) depth e via
+    unfolding walkGrid
+    turn-sum depth k z = rw (← z) (walked-load (walkGrid E K far load capacity) (lent-formed head next far closed load capacity E K lent)
         (closedIn closed) d e via sum over j w k (lent .fit))
 
   module _ (sum over j : ℕ) (w : Walked (walkGrid E K far load capacity) (closedIn closed) d e via sum over j) (k : j < 192) where

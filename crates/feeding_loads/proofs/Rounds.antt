@@ -3,16 +3,17 @@
 use Prim.Native.Nat.{ℕ, zero, suc, _+_, _*_, _/_, _≤_, _<_, min}
 use mathlib.Core.Path.{_≡_, refl, sym, ap, _∙_}
 use mathlib.Core.Bool.{Bool, true, false, not, _&&_, _||_, and-false, false≢true}
-use lib.Dec.{eqb, leb}
-use borrow.Author.Tests.{eqb-true, eq-eqb, ne-eqb, lt-ltb, le-leb, lt-leb}
+use lib.Dec.{eqb}
+use borrow.Author.Tests.{eqb-true, eq-eqb, ne-eqb, lt-ltb}
 use native.Mathlib.Omega.{arith}
 use Rattle.feeding.specs.Below.{gate, sumTo, leastTo}
 use Rattle.feeding.specs.Networks.{Grid, Formed}
 use Rattle.feeding.specs.Parts.{Config, touches, far}
-use Rattle.feeding.specs.Loads.{leads, elementLoad, linkLoad, above, elementOver, linkOver}
+use Rattle.feeding.specs.Loads.{borne?, leads, elementLoad, linkLoad, above, elementOver, linkOver}
 use Rattle.feeding.proofs.Below.{and-both, orElse}
 use Rattle.feeding.proofs.Labels.{far-lt}
 use Rattle.feeding.proofs.Lows.{leastTo-no, leastTo-more, leastTo-top, leastTo-gap, leastTo-pairs}
+use Rattle.feeding.proofs.Margins.{le-borne, lt-borne}
 use Rattle.feeding.proofs.Sums.{sumTo-no, sumTo-more, sumTo-gap, sumTo-grows, sumTo-pairs}
 use Rattle.feeding_ends.specs.Ends.{endAt, own}
 use Rattle.feeding_loads.specs.Walks.{Skips, lowerOver, elementCarried, linkCarried}
@@ -22,11 +23,11 @@ use Rattle.feeding_ends.proofs.Chains.{end-first, end-second, own-yes, own-no}
 
 pub lower-within : (e x cap over : ℕ) → x ≤ cap → lowerOver e x cap over ≡ over
 unfolding lowerOver
-lower-within e x cap over h = rw (le-leb x cap h, lowerOver)
+lower-within e x cap over h = rw (le-borne cap x h, lowerOver)
 
 pub lower-above : (e x cap over : ℕ) → cap < x → lowerOver e x cap over ≡ min e over
 unfolding lowerOver
-lower-above e x cap over h = rw (lt-leb x cap h, lowerOver)
+lower-above e x cap over h = rw (lt-borne cap x h, lowerOver)
 
 -- ---- what an own end adds
 
@@ -66,7 +67,7 @@ pair-low z false false false s x k h = omega arith
 
 above-top : (g : Grid) (e x : ℕ) → e ≤ g .E → above g e x ≤ g .E
 unfolding above
-above-top g e x h = go (leb x (g .capacity e))
+above-top g e x h = go (borne? (g .capacity e) x)
   where
     go : (t : Bool) → elim t [ true ↦ g .E | false ↦ e ] ≤ g .E
     go true = omega arith
@@ -265,7 +266,7 @@ module _ (g : Grid) (formed : Formed g) (c : Config) (d e via : ℕ) where
 
     lower-is : (x o : ℕ) → o ≤ g .E → lowerOver e x (g .capacity e) o ≡ min (above g e x) o
     unfolding lowerOver above
-    lower-is x o h = go (leb x (g .capacity e))
+    lower-is x o h = go (borne? (g .capacity e) x)
       where
         go : (t : Bool) → orElse (min e o) t o ≡ min (orElse e t (g .E)) o
         go true = omega arith
@@ -284,7 +285,7 @@ module _ (g : Grid) (formed : Formed g) (c : Config) (d e via : ℕ) where
 
 none-same : (g : Grid) (e x : ℕ) → e < g .E → lowerOver e x (g .capacity e) (g .E) ≡ above g e x
 unfolding lowerOver above
-none-same g e x k = go (leb x (g .capacity e))
+none-same g e x k = go (borne? (g .capacity e) x)
   where
     go : (t : Bool) → orElse (min e (g .E)) t (g .E) ≡ orElse e t (g .E)
     go true = refl

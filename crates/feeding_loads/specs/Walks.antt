@@ -5,12 +5,12 @@ use mathlib.Core.Path.{_≡_}
 use mathlib.Core.Bool.{true, false}
 use mathlib.Core.List.{List}
 use Prim.Native.Nat.{ℕ, suc, _+_, _*_, _<_, _≤_, _^_, min}
-use lib.Dec.{eqb, leb}
+use lib.Dec.{eqb}
 use lib.ListN.{length}
 use Rattle.feeding.specs.Below.{leastTo}
 use Rattle.feeding.specs.Networks.{Grid, at}
 use Rattle.feeding.specs.Parts.{Config, closedIn}
-use Rattle.feeding.specs.Loads.{elementLoad, linkLoad, elementOver, linkOver}
+use Rattle.feeding.specs.Loads.{borne?, elementLoad, linkLoad, elementOver, linkOver}
 use Rattle.feeding_ends.specs.Ends.{endAt, own}
 use Rattle.feeding_loads.specs.declared.Carried.{Carried}
 
@@ -61,9 +61,9 @@ pub record Lent (head next far closed load capacity : List ℕ) (E K : ℕ) : Ty
   pub heads : (e : ℕ) → e < E → Skips (endsA far) (endsB far) (closedIn closed) K e 0 (at head e)
   pub nexts : (j : ℕ) → j < 2 * K → Skips (endsA far) (endsB far) (closedIn closed) K (nearAt far j) (suc j) (at next j)
 
--- the lower of `over` and e, where e is loaded above its capacity
+-- the lower of `over` and e, where the margin of e is negative
 unfoldable pub lowerOver : (e load capacity over : ℕ) → ℕ
-lowerOver e load capacity over = elim (leb load capacity) [ true ↦ over | false ↦ min e over ]
+lowerOver e load capacity over = elim (borne? capacity load) [ true ↦ over | false ↦ min e over ]
 
 unfoldable pub elementCarried : Grid → Config → (depth e via : ℕ) → Carried
 elementCarried g c d e via = record { load = elementLoad g c d e via; over = elementOver g c d e via }

@@ -1,4 +1,5 @@
 // The load at an element and what a link carries, each by its own links; and the lowest element that is loaded above its capacity.
+use feeding_load_test::margin_of;
 ghost use mathlib.Core.Path.{_≡_};
 ghost use Prim.Native.Nat.{_<_, _≤_, _^_, _*_, _/_};
 ghost use lib.ListN.{length};
@@ -12,11 +13,12 @@ pub struct Carried {
     pub over: usize,
 }
 
-// The lower of over and e, where e is loaded above its capacity, else over.
+// The lower of over and e, where the margin of e is negative, else over.
 fn lower_over(e: usize, load: u64, capacity: u32, over: usize) -> usize
+    requires { ⌜ load < 2 ^ 63 ⌝ }
     ensures { λ r. ⌜ r ≡ lowerOver e load capacity over ⌝ }
 {
-    if load <= capacity as u64 {
+    if margin_of(load, capacity as u64) >= 0 {
         return over;
     }
     if e < over {
@@ -41,7 +43,7 @@ pub fn element_load<'a>(
 ) -> Carried
     requires { ⌜ Lent (now head) (now next) (now far) (now closed) (now load) (now capacity) elements links ⌝ }
     requires { ⌜ e < elements ⌝ }
-    requires { ⌜ elementLoad (walkGrid elements links (now far) (now load) (now capacity)) (closedIn (now closed)) depth e via < 2 ^ 64 ⌝ }
+    requires { ⌜ elementLoad (walkGrid elements links (now far) (now load) (now capacity)) (closedIn (now closed)) depth e via < 2 ^ 63 ⌝ }
     ensures { λ r. ⌜ r ≡ elementCarried (walkGrid elements links (now (far .entry)) (now (load .entry)) (now (capacity .entry))) (closedIn (now (closed .entry))) depth e via ⌝ }
 {
     let mut sum = load[e] as u64;
@@ -94,7 +96,7 @@ pub fn link_load<'a>(
 ) -> Carried
     requires { ⌜ Lent (now head) (now next) (now far) (now closed) (now load) (now capacity) elements links ⌝ }
     requires { ⌜ j < 2 * links ⌝ }
-    requires { ⌜ linkLoad (walkGrid elements links (now far) (now load) (now capacity)) (closedIn (now closed)) depth (j / 2) (nearAt (now far) j) < 2 ^ 64 ⌝ }
+    requires { ⌜ linkLoad (walkGrid elements links (now far) (now load) (now capacity)) (closedIn (now closed)) depth (j / 2) (nearAt (now far) j) < 2 ^ 63 ⌝ }
     ensures { λ r. ⌜ r ≡ linkCarried (walkGrid elements links (now (far .entry)) (now (load .entry)) (now (capacity .entry))) (closedIn (now (closed .entry))) depth (j / 2) (nearAt (now (far .entry)) j) ⌝ }
 {
     if depth == 0 {

@@ -1,13 +1,13 @@
 -- Closing one open link keeps a safe configuration safe exactly where `Closes` holds: the two parts are joined, and nothing else changes.
 -- Assumes nothing.
-use Prim.Native.Nat.{ℕ, _≤_, _<_}
+use Prim.Native.Nat.{ℕ, _<_}
 use mathlib.Core.Path.{_≡_, refl, sym, ap, _∙_, subst}
 use mathlib.Core.Logic.{_⊎_, inl, inr}
 use mathlib.Core.Bool.{Bool, true, false, false≢true}
 use Rattle.feeding.specs.Below.{gate}
 use Rattle.feeding.specs.Networks.{Grid, Net, Formed}
 use Rattle.feeding.specs.Parts.{Config, Joined, here, over, touches, far, Sound, Live, label, joined?, sound?}
-use Rattle.feeding.specs.Loads.{Fed, at-source, onward, loadAt}
+use Rattle.feeding.specs.Loads.{Fed, at-source, onward, loadAt, Bears}
 use Rattle.feeding.specs.Plans.{put}
 use Rattle.feeding.specs.Safety.{Safe, without}
 use Rattle.feeding.proofs.Below.{same-test}
@@ -205,6 +205,6 @@ module _ (g : Grid) (formed : Formed g) (c : Config) (l : ℕ) where
         r = joins-radial (record { bridges = bridges; one = safe .one; clear = safe .clear }) (h .joins)
 
         within : {e via : ℕ} → Fed g (put c l true) e via → Beside g c l e ⊎ (¬ Beside g c l e) → Live g (put c l true) e
-            → loadAt g (put c l true) e via ≤ g .capacity e
+            → Bears g e (loadAt g (put c l true) e via)
         within {e} {via} f (inl b) v = h .within (v .source) (v .sound) (joined-beside g c l b (v .joined)) e via b f
         within {e} {via} f (inr n) v = rw (load-before bridges (r .bridges) f n) (safe .within e via (fed-before g c l f n))

@@ -3,13 +3,12 @@
 use Prim.Native.Nat.{ℕ, zero, suc, _*_, _≤_, _<_}
 use mathlib.Core.Path.{_≡_, refl, ap, subst}
 use mathlib.Core.Bool.{Bool, true, false, not}
-use lib.Dec.{ltb}
-use borrow.Author.Tests.{ltb-true, ltb-false, le-ltb, not-true}
+use borrow.Author.Tests.{ltb-false, le-ltb, not-true}
 use native.Mathlib.Omega.{arith}
 use Rattle.feeding.specs.Below.{leastTo}
 use Rattle.feeding.specs.Networks.{Grid, Formed}
 use Rattle.feeding.specs.Parts.{Config, Joined, far, Sound, sound?}
-use Rattle.feeding.specs.Loads.{leads, Fed, at-source, onward, elementLoad, loadAt, above, elementOver, linkOver, lowestOver, withinFrom?}
+use Rattle.feeding.specs.Loads.{leads, Fed, at-source, onward, elementLoad, loadAt, Bears, bears?, above, elementOver, linkOver, lowestOver, withinFrom?}
 use Rattle.feeding.specs.Safety.{Safe}
 use Rattle.feeding.proofs.Below.{orElse}
 use Rattle.feeding.proofs.Decided.{safe-kept}
@@ -17,6 +16,7 @@ use Rattle.feeding.proofs.Forest.{Bridges}
 use Rattle.feeding.proofs.Joins.{spans-far, step}
 use Rattle.feeding.proofs.Load.{same-load, fed-came, fed-in}
 use Rattle.feeding.proofs.Lows.{leastTo-le}
+use Rattle.feeding.proofs.Margins.{bears?-in, bears?-out}
 use Rattle.feeding.proofs.Overloads.{above-in}
 use Rattle.feeding.proofs.Tests.{sound?-in}
 use Rattle.feeding.proofs.Walk.{room, room-le, room-shrinks, room-pos, leads-on, leads-touches}
@@ -70,23 +70,23 @@ module _ (g : Grid) (formed : Formed g) (c : Config) (bridges : Bridges g c)
       go : Met e v → Met (far g l e) l
       go m = meets-next e v l f k h (m .depth) (m .enough) (m .low)
 
-  pub within-out : withinFrom? g c s ≡ true → {e via : ℕ} → Fed g c e via → Joined g c s e → loadAt g c e via ≤ g .capacity e
+  pub within-out : withinFrom? g c s ≡ true → {e via : ℕ} → Fed g c e via → Joined g c s e → Bears g e (loadAt g c e via)
   unfolding withinFrom?
-  within-out h {e} {via} f j = go (met f j) (ltb (g .capacity e) (loadAt g c e via)) refl
+  within-out h {e} {via} f j = go (met f j) (bears? g e (loadAt g c e via)) refl
     where
       load-is : (m : Met e via) → elementLoad g c (m .depth) e via ≡ loadAt g c e via
       load-is m = same-load g formed c bridges (m .depth) (2 * g .E) e via (fed-in g c formed f) (fed-came g c f) (m .enough) (omega (arith, room-le g c e via))
 
-      go : Met e via → (t : Bool) → ltb (g .capacity e) (loadAt g c e via) ≡ t → loadAt g c e via ≤ g .capacity e
-      go m true t = absurd (omega (
+      go : Met e via → (t : Bool) → bears? g e (loadAt g c e via) ≡ t → Bears g e (loadAt g c e via)
+      go m true t = bears?-in g e _ t
+      go m false t = absurd (omega (
         arith,
         m .low,
         own-low g c (m .depth) e via,
-        above-in g e (elementLoad g c (m .depth) e via) (λ x. omega (arith, ltb-true (g .capacity e) (loadAt g c e via) t, load-is m)),
+        above-in g e (elementLoad g c (m .depth) e via) (λ x. bears?-out g e _ t (subst (Bears g e) (load-is m) x)),
         fed-in g c formed f,
         ltb-false (elementOver g c (2 * g .E) s (g .K)) (g .E) (not-true _ h),
       ))
-      go m false t = ltb-false _ _ t
 
 -- in a safe configuration every such walk finds none
 pub within-in : (g : Grid) → Formed g → (c : Config) → Safe g c → (s : ℕ) → Sound g s → withinFrom? g c s ≡ true

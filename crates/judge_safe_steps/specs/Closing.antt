@@ -4,10 +4,10 @@
 use mathlib.Core.Path.{_≡_}
 use mathlib.Core.Bool.{true}
 use mathlib.Core.Logic.{_⊎_}
-use Prim.Native.Nat.{ℕ, _≤_, _<_}
+use Prim.Native.Nat.{ℕ, _<_}
 use Rattle.feeding.specs.Networks.{Grid}
 use Rattle.feeding.specs.Parts.{Config, Joined, Sound}
-use Rattle.feeding.specs.Loads.{Fed, loadAt}
+use Rattle.feeding.specs.Loads.{Fed, loadAt, Bears}
 use Rattle.feeding.specs.Plans.{put}
 
 -- e is in the part of one of the two ends of the link l
@@ -29,4 +29,4 @@ pub record Closes (g : Grid) (c : Config) (l : ℕ) : Type 0 where
   -- "(judged only where those three hold) the load at each live element is at most its capacity": where one of the parts has a sound source, at
   -- each element of the joined part
   pub within : (s : ℕ) → Sound g s → Beside g c l s → (e via : ℕ) → Beside g c l e → Fed g (put c l true) e via
-      → loadAt g (put c l true) e via ≤ g .capacity e
+      → Bears g e (loadAt g (put c l true) e via)

@@ -6,13 +6,16 @@ use mathlib.Core.List.{List, [], _∷_, _++_}
 use Prim.Native.Nat.{ℕ, _+_, _^_, _<_, _≤_}
 use native.Mathlib.Numerals.{add-one}
 use native.Mathlib.Omega.{arith}
+use lib.IntN.{ℤ}
 use lib.ListN.{length, getD, length-append}
 use lib.Seq.{sets}
 use Rattle.file_plan.specs.declared.plan.Plan.{Plan}
 use Rattle.plan_sums.specs.declared.Sums.{Sums}
-use Rattle.texts.specs.Texts.{feed, inFront}
+use Rattle.texts.specs.Texts.{field, signedField, feed, inFront}
 use Rattle.texts.proofs.Pieces.{Put, put-behind, field-16, field-64, put-front}
-use Rattle.plan_lines.specs.Lines.{noneWord, stepWord}
+use Rattle.feeding_margins.specs.declared.Spot.{Spot}
+use Rattle.feeding_margins.specs.declared.Spot.the-variants.{Nowhere, At}
+use Rattle.plan_lines.specs.Lines.{noneWord, stepWord, marginWord, noneMark, marginLine}
 use Rattle.plan_lines.specs.Lines.{stepLine, stepLines, planLine, loadLine}
 use Rattle.plan_lines.specs.Lines.{textOf, replyText, tailLines, tailRoom, planLines, noneLines}
 
@@ -60,6 +63,35 @@ steps-put p l l′ l″ at j k n e e′ =
 pub load-length : (s : Sums) → s .fed < 2 ^ 64 → s .dark < 2 ^ 64 → s .lost < 2 ^ 64 → length (loadLine s) ≤ 68
 unfolding loadLine
 load-length s f d l = simp length-append (omega (arith, field-64 (s .fed) f, field-64 (s .dark) d, field-64 (s .lost) l))
+
+-- ---- the line of the margin
+
+pub margin-at :
+    (l l₁ l₂ l₃ l₄ : List ℕ) (at i j k n x e : ℕ) (m z : ℤ) (spot : Spot) →
+    spot ≡ At e z →
+    Put l at l₁ i marginWord →
+    Put l₁ i l₂ j (field x) →
+    Put l₂ j l₃ k (signedField m) →
+    Put l₃ k l₄ n feed →
+    x ≡ e →
+    m ≡ z →
+    Put l at l₄ n (marginLine spot)
+unfolding marginLine
+margin-at l l₁ l₂ l₃ l₄ at i j k n x e m z spot is word first second end q q′ =
+    let two = put-behind l l₁ l₂ at i j marginWord (field e) word (rw q at first) in
+    let three = put-behind l l₂ l₃ at j k (marginWord ++ field e) (signedField z) two (rw q′ at second) in
+    rw is (put-behind l l₃ l₄ at k n (marginWord ++ field e ++ signedField z) feed three end)
+
+pub margin-none :
+    (l l₁ l₂ l₃ : List ℕ) (at i j k : ℕ) (spot : Spot) →
+    spot ≡ Nowhere →
+    Put l at l₁ i marginWord →
+    Put l₁ i l₂ j noneMark →
+    Put l₂ j l₃ k feed →
+    Put l at l₃ k (marginLine spot)
+unfolding marginLine
+margin-none l l₁ l₂ l₃ at i j k spot is word mark end =
+    rw is (put-behind l l₂ l₃ at j k (marginWord ++ noneMark) feed (put-behind l l₁ l₂ at i j marginWord noneMark word mark) end)
 
 -- ---- the tail
 

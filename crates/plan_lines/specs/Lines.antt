@@ -4,11 +4,13 @@ use mathlib.Core.Bool.{Bool, true, false}
 use mathlib.Core.List.{List, [], _∷_, _++_, foldr}
 use Prim.Native.Nat.{ℕ, zero, suc}
 use lib.ListN.{getD}
-use Rattle.texts.specs.Texts.{field, feed, lineOf}
+use Rattle.texts.specs.Texts.{field, signedField, feed, lineOf}
+use Rattle.feeding_margins.specs.declared.Spot.{Spot}
+use Rattle.feeding_margins.specs.declared.Spot.the-variants.{Nowhere, At}
 use Rattle.file_plan.specs.declared.plan.Plan.{Plan}
 use Rattle.plan_sums.specs.declared.Sums.{Sums}
 
--- the words PLAN, NONE, LOAD, OPEN and CLOSE
+-- the words PLAN, NONE, LOAD, MARGIN, OPEN and CLOSE
 abbrev pub planWord : List ℕ
 planWord = 80 ∷ 76 ∷ 65 ∷ 78 ∷ []
 
@@ -17,6 +19,13 @@ noneWord = 78 ∷ 79 ∷ 78 ∷ 69 ∷ []
 
 abbrev pub loadWord : List ℕ
 loadWord = 76 ∷ 79 ∷ 65 ∷ 68 ∷ []
+
+abbrev pub marginWord : List ℕ
+marginWord = 77 ∷ 65 ∷ 82 ∷ 71 ∷ 73 ∷ 78 ∷ []
+
+-- a blank and a minus sign
+abbrev pub noneMark : List ℕ
+noneMark = 32 ∷ 45 ∷ []
 
 abbrev pub stepWord : Bool → List ℕ
 stepWord true = 67 ∷ 76 ∷ 79 ∷ 83 ∷ 69 ∷ []
@@ -38,6 +47,11 @@ stepLines p (suc n) = stepLines p n ++ stepLine (getD (p .link) n 0) (getD (p .c
 -- "LOAD fed dark lost"
 unfoldable pub loadLine : Sums → List ℕ
 loadLine s = loadWord ++ field (s .fed) ++ field (s .dark) ++ field (s .lost) ++ feed
+
+-- "MARGIN element number for the live element with the least margin .., or MARGIN - if none is live"
+unfoldable pub marginLine : Spot → List ℕ
+marginLine (At e m) = marginWord ++ field e ++ signedField m ++ feed
+marginLine Nowhere = marginWord ++ noneMark ++ feed
 
 -- ---- the lines of a reply
 

@@ -1,16 +1,18 @@
 // The planner's printed lines, into the front of a lent array.
+use feeding_margins::Spot;
 use file_plan::plan::Plan;
 use plan_sums::Sums;
 use texts::put_feed;
 use texts::put_field;
 use texts::put_line;
+use texts::put_signed;
 use texts::put_text;
 ghost use mathlib.Core.Path.{_≡_};
 ghost use Prim.Native.Nat.{_+_, _*_, _≤_};
 ghost use lib.ListN.{length};
 ghost use lib.Seq.{sets};
 ghost use Rattle.texts.specs.Texts.{inFront};
-ghost use Rattle.plan_lines.specs.Lines.{stepWord, stepLine, stepLines, loadLine};
+ghost use Rattle.plan_lines.specs.Lines.{stepWord, stepLine, stepLines, loadLine, marginLine};
 ghost use Rattle.plan_lines.specs.Lines.{textOf, tailLines, tailRoom, planLines, noneLines};
 
 // The word of a step.
@@ -67,6 +69,27 @@ fn put_load(out: &mut [u8], at: usize, sums: Sums) -> usize
     let second = put_field(out, first, sums.dark);
     let third = put_field(out, second, sums.lost);
     put_feed(out, third)
+}
+
+// `MARGIN element number`, or `MARGIN -`.
+fn put_margin(out: &mut [u8], at: usize, spot: Spot) -> usize
+    requires { ⌜ at + 50 ≤ length (now out) ⌝ }
+    ensures { λ r. ⌜ r ≤ at + 50 ⌝ }
+    ensures { λ r. ⌜ r ≡ at + length (marginLine spot) ⌝ }
+    ensures { λ _. ⌜ now (out .exit) ≡ sets (now (out .entry)) at (marginLine spot) ⌝ }
+{
+    let word = put_text(out, at, b"MARGIN");
+    match spot {
+        Spot::Nowhere => {
+            let mark = put_text(out, word, b" -");
+            return put_feed(out, mark);
+        }
+        Spot::At(e, m) => {
+            let first = put_field(out, word, e as u64);
+            let second = put_signed(out, first, m);
+            return put_feed(out, second);
+        }
+    }
 }
 
 // The lines behind the steps: LOAD.

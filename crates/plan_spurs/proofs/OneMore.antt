@@ -5,10 +5,12 @@ use mathlib.Core.Path.{_≡_, refl, sym, ap, _∙_}
 use mathlib.Core.Bool.{Bool, true, false, not, _&&_, and-false}
 use mathlib.Core.List.{List}
 use native.Mathlib.Omega.{arith}
-use lib.Dec.{leb, ltb}
+use lib.Dec.{ltb}
 use lib.ListN.{length, set, length-set}
-use borrow.Author.Tests.{lt-ltb, le-ltb, eq-eqb, ne-eqb, le-leb, lt-leb, leb-true}
+use borrow.Author.Tests.{lt-ltb, le-ltb, eq-eqb, ne-eqb}
 use Rattle.feeding.proofs.Below.{and-both, and-left, and-right}
+use Rattle.feeding.proofs.Margins.{le-borne, lt-borne, borne-true}
+use Rattle.feeding.specs.Loads.{borne?}
 use Rattle.feeding.specs.Networks.{at, isIn}
 use Rattle.feeding_ends.specs.declared.OwnEnds.{OwnEnds}
 use Rattle.plan_spurs.specs.declared.Lumped.{Lumped}
@@ -57,11 +59,11 @@ module _ (head next sound base : List ℕ) (e : ℕ) where
 
 pub too-much : (x y u v : ℕ) → y < x → false ≡ bearsBoth x y u v
 unfolding bearsBoth
-too-much x y u v h = rw (lt-leb x y h)
+too-much x y u v h = rw (lt-borne y x h)
 
-pub both-borne : (x y u v : ℕ) → x ≤ y → leb (u + x) v ≡ bearsBoth x y u v
+pub both-borne : (x y u v : ℕ) → x ≤ y → borne? v (u + x) ≡ bearsBoth x y u v
 unfolding bearsBoth
-both-borne x y u v h = rw (le-leb x y h)
+both-borne x y u v h = rw (le-borne y x h)
 
 -- ---- one element more
 
@@ -177,4 +179,4 @@ module _ (own : OwnEnds) (sound capacity : List ℕ) where
 -- what both bear fits where the capacity does
 pub borne-fits : (x y u v : ℕ) → bearsBoth x y u v ≡ true → (x ≤ y) × (u + x ≤ v)
 unfolding bearsBoth
-borne-fits x y u v h = (leb-true x y (and-left (leb x y) _ h), leb-true (u + x) v (and-right (leb x y) _ h))
+borne-fits x y u v h = (borne-true y x (and-left (borne? y x) _ h), borne-true v (u + x) (and-right (borne? y x) _ h))

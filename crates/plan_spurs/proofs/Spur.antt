@@ -6,7 +6,7 @@ use mathlib.Core.Path.{_≡_, refl, sym, ap, ap₂, _∙_, subst}
 use mathlib.Core.Bool.{Bool, true, false, false≢true}
 use mathlib.Core.Logic.{_⊎_, inl, inr}
 use lib.Dec.{eqb}
-use borrow.Author.Tests.{eqb-true, eqb-false, eq-eqb, lt-ltb, le-leb, not-true}
+use borrow.Author.Tests.{eqb-true, eqb-false, eq-eqb, lt-ltb, not-true}
 use native.Mathlib.Omega.{arith}
 use Rattle.feeding.specs.Below.{sumTo, leastTo, gate}
 use Rattle.feeding.specs.Loads.{leads, elementLoad, linkLoad, above, elementOver, linkOver, lowestOver}
@@ -17,6 +17,7 @@ use Rattle.feeding.proofs.Forest.{Bridges}
 use Rattle.feeding.proofs.Joins.{Spans, spans-far, spans-sym, spans-is-far, spans-touches}
 use Rattle.feeding.proofs.Labels.{far-lt}
 use Rattle.feeding.proofs.Lows.{leastTo-ext, leastTo-gap, leastTo-no}
+use Rattle.feeding.proofs.Margins.{le-borne}
 use Rattle.feeding.proofs.Sums.{sumTo-ext, sumTo-add, sumTo-at, sumTo-zero}
 use Rattle.feeding.proofs.Walk.{Came, start, came-on, leads-on, leads-touches, leads-ne, leads-in, spans-either}
 use Rattle.feeding.proofs.Walk.{room, room-le, room-shrinks, room-pos}
@@ -87,7 +88,7 @@ module _ (g : Grid) (w : ℕ → ℕ) (c : Config) where
 
 above-fits : (g : Grid) (e x : ℕ) → x ≤ g .capacity e → above g e x ≡ g .E
 unfolding above
-above-fits g e x h = rw (le-leb x (g .capacity e) h, above)
+above-fits g e x h = rw (le-borne (g .capacity e) x h, above)
 
 -- ---- the element f at the end of the link l
 

@@ -5,8 +5,9 @@
 use mathlib.Core.Bool.{Bool, true, false, not, _&&_}
 use mathlib.Core.List.{List}
 use Prim.Native.Nat.{ℕ, zero, suc, _+_, _/_, _<_}
-use lib.Dec.{leb, ltb}
+use lib.Dec.{ltb}
 use lib.ListN.{set}
+use Rattle.feeding.specs.Loads.{borne?}
 use Rattle.feeding.specs.Networks.{at, isIn}
 use Rattle.feeding_ends.specs.declared.OwnEnds.{OwnEnds}
 use Rattle.plan_spurs.specs.declared.Lumped.{Lumped}
@@ -25,7 +26,7 @@ hangsBy head next sound base e = elim (spur? next sound base e (at head e)) [ tr
 
 -- a spur with load x and capacity y hangs from an element with load u and capacity v, and neither is overloaded by these two loads
 unfoldable pub bearsBoth : (x y u v : ℕ) → Bool
-bearsBoth x y u v = leb x y && leb (u + x) v
+bearsBoth x y u v = borne? y x && borne? v (u + x)
 
 -- e, which hangs by the end j from the element `to`, lumped with it
 unfoldable pub lumpedBy : (capacity : List ℕ) (e j to : ℕ) → Lumped → Lumped

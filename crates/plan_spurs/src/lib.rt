@@ -1,5 +1,6 @@
 // Spurs: elements that hang by one link whatever the set of switches, so that the loads they add are the same in every configuration tried.
 use feeding_ends::OwnEnds;
+use feeding_load_test::margin_of;
 ghost use mathlib.Core.Path.{_≡_};
 ghost use Prim.Native.Nat.{_<_, _≤_};
 ghost use Rattle.plan_spurs.specs.Spurs.{FarIn, hangsBy, bearsBoth, lumpedTo};
@@ -44,10 +45,10 @@ fn hangs_by<'a>(
 fn bears(own: u32, limit: u32, load: u32, capacity: u32) -> bool
     ensures { λ r. ⌜ r ≡ bearsBoth own limit load capacity ⌝ }
 {
-    if own > limit {
+    if margin_of(own as u64, limit as u64) < 0 {
         return false;
     }
-    load as u64 + own as u64 <= capacity as u64
+    margin_of(load as u64 + own as u64, capacity as u64) >= 0
 }
 
 // Each spur that overloads nothing by itself is lumped with the element that it hangs from, and its link left out of `base`.

@@ -21,6 +21,7 @@ use Rattle.feeding.proofs.Joins.{joined-sym}
 use Rattle.feeding.proofs.Labels.{joined?-sound, joined?-complete}
 use Rattle.feeding.proofs.Load.{FedAt, live-fed, load-equation, fed-in, fed-came}
 use Rattle.feeding.proofs.Opening.{joined-mono}
+use Rattle.feeding.proofs.Margins.{bears-le, le-borne}
 use Rattle.feeding.proofs.Overloads.{none-over}
 use Rattle.feeding.proofs.Sums.{sumTo-ext, sumTo-add, sumTo-mono}
 use Rattle.feeding.proofs.Tests.{sound?-in, sound?-out}
@@ -113,10 +114,10 @@ module _ (g : Grid) (formed : Formed g) (c : Config) (radial : Radial g c) (top 
   -- a live element bears its own load, so it asks that
   own : (s e : ℕ) → Sound g s → Joined g c s e → ownAsk g top e ≡ g .load e
   unfolding ownAsk
-  own s e p j = rw (le-leb (g .load e) (g .capacity e) (small (live-fed g c s e p j)), ownAsk)
+  own s e p j = rw (le-borne (g .capacity e) (g .load e) (small (live-fed g c s e p j)), ownAsk)
     where
       small : FedAt g c e → g .load e ≤ g .capacity e
-      small f = omega (arith, fits e (f .via) (f .fed), load-equation g formed c (radial .bridges) e (f .via) (fed-in g c formed (f .fed)) (fed-came g c (f .fed)))
+      small f = omega (arith, bears-le g e _ (fits e (f .via) (f .fed)), load-equation g formed c (radial .bridges) e (f .via) (fed-in g c formed (f .fed)) (fed-came g c (f .fed)))
 
   -- no link has the number K, so nothing changes without it
   with-all : {d a : ℕ} → Joined g c d a → Joined g (without c (g .K)) d a
@@ -142,5 +143,5 @@ module _ (g : Grid) (formed : Formed g) (c : Config) (radial : Radial g c) (top 
 
   pub within-supplied : supplied? g (ownAsk g top) c ≡ true
   within-supplied = supplied-in g (ownAsk g top) c (record {
-    bears = λ s p. omega (arith, source-load s p, fits s (g .K) (at-source p));
+    bears = λ s p. omega (arith, source-load s p, bears-le g s _ (fits s (g .K) (at-source p)));
   })

@@ -6,6 +6,7 @@ use mathlib.Core.Bool.{Bool, true, false}
 use Prim.Native.Nat.{ℕ, _≤_}
 use lib.Dec.{eqb, leb}
 use Rattle.feeding.specs.Below.{sumTo, allTo, gate, imp}
+use Rattle.feeding.specs.Loads.{bears?}
 use Rattle.feeding.specs.Networks.{Grid, Net}
 use Rattle.feeding.specs.Parts.{Config, Sound, label, sound?}
 use Rattle.feeding.specs.Restoration.{restorable?}
@@ -21,7 +22,7 @@ pub record Supplied (g : Grid) (asks : ℕ → ℕ) (c : Config) : Type 0 where
 -- what an element asks of its source: its own load. Where it is too small for that itself, `top`, which can be more than any source bears: then
 -- its part stays without a source.
 unfoldable pub ownAsk : Grid → (top : ℕ) → ℕ → ℕ
-ownAsk g top e = elim (leb (g .load e) (g .capacity e)) [ true ↦ g .load e | false ↦ top ]
+ownAsk g top e = elim (bears? g e (g .load e)) [ true ↦ g .load e | false ↦ top ]
 
 -- ---- what computes
 

@@ -7,14 +7,16 @@ use mathlib.Core.Logic.{_⊎_, inl, inr}
 use Prim.Native.Nat.{ℕ, zero, suc, _+_, _*_, _-_, _<_, _≤_}
 use native.Mathlib.Numerals.{add-one}
 use native.Mathlib.Omega.{arith}
-use lib.Dec.{eqb, leb}
+use lib.Dec.{eqb}
 use lib.ListN.{length, set, length-set, replicate, length-replicate, getD-replicate}
 use lib.Seq.{getD-set-same, getD-set-other}
-use borrow.Author.Tests.{eq-eqb, ne-eqb, le-leb, lt-leb}
+use borrow.Author.Tests.{eq-eqb, ne-eqb}
 use Rattle.feeding.specs.Below.{gate}
+use Rattle.feeding.specs.Loads.{borne?}
 use Rattle.feeding.specs.Networks.{at, isIn}
 use Rattle.feeding.proofs.Below.{gate-le}
 use Rattle.feeding.proofs.Lows.{length-tabulate, at-tabulate, table-ext}
+use Rattle.feeding.proofs.Margins.{le-borne, lt-borne}
 use Rattle.feeding.proofs.Sums.{sumTo-no, sumTo-more, sumTo-below}
 use Rattle.plan_stops.proofs.OneMore.{same?}
 use Rattle.plan_supply.specs.Supply.{askOf, askedAt, asksIn, spareAt, spareIn, demandIn}
@@ -23,17 +25,17 @@ use Rattle.plan_supply.specs.Supply.{askOf, askedAt, asksIn, spareAt, sp
 
 pub ask-small : (load capacity : ℕ) → load ≤ capacity → load ≡ askOf load capacity
 unfolding askOf
-ask-small load capacity h = rw (le-leb load capacity h, askOf)
+ask-small load capacity h = rw (le-borne capacity load h, askOf)
 
 pub ask-large : (load capacity : ℕ) → capacity < load → 4294967296 ≡ askOf load capacity
 unfolding askOf
-ask-large load capacity h = rw (lt-leb load capacity h, askOf)
+ask-large load capacity h = rw (lt-borne capacity load h, askOf)
 
 pub ask-most : (load capacity : ℕ) → load < 4294967296 → askOf load capacity ≤ 4294967296
 unfolding askOf
-ask-most load capacity h = go (leb load capacity) refl
+ask-most load capacity h = go (borne? capacity load) refl
   where
-    go : (t : Bool) → leb load capacity ≡ t → askOf load capacity ≤ 4294967296
+    go : (t : Bool) → borne? capacity load ≡ t → askOf load capacity ≤ 4294967296
     go true t = rw (t, askOf) (omega arith)
     go false t = rw (t, askOf) (omega arith)
 

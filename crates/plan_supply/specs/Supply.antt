@@ -4,14 +4,15 @@ use mathlib.Core.Path.{_≡_}
 use mathlib.Core.Bool.{true, false, _&&_}
 use mathlib.Core.List.{List}
 use Prim.Native.Nat.{ℕ, zero, suc, _*_, _-_, _^_, _<_, _≤_}
-use lib.Dec.{eqb, leb}
+use lib.Dec.{eqb}
 use lib.ListN.{length}
 use Rattle.feeding.specs.Below.{sumTo, gate, tabulate}
+use Rattle.feeding.specs.Loads.{borne?}
 use Rattle.feeding.specs.Networks.{at, isIn}
 
 -- its load, or 2 ^ 32 where it is too small for that
 unfoldable pub askOf : (load capacity : ℕ) → ℕ
-askOf load capacity = elim (leb load capacity) [ true ↦ load | false ↦ 4294967296 ]
+askOf load capacity = elim (borne? capacity load) [ true ↦ load | false ↦ 4294967296 ]
 
 -- what the first n elements with the label x ask
 unfoldable pub askedAt : (label load capacity : List ℕ) → ℕ → ℕ → ℕ

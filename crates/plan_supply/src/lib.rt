@@ -1,4 +1,5 @@
 // What the elements of each part ask together, and what the part's source bears beyond that; two parts joined by these numbers.
+use feeding_load_test::margin_of;
 use plan_holdings::source_in;
 ghost use mathlib.Core.Path.{_≡_};
 ghost use mathlib.Core.Bool.{true, not};
@@ -10,7 +11,7 @@ ghost use Rattle.plan_supply.specs.Supply.{Rated, Sourced, Asking, askOf
 fn ask(load: u32, capacity: u32) -> u64
     ensures { λ r. ⌜ r ≡ askOf load capacity ⌝ }
 {
-    if load <= capacity {
+    if margin_of(load as u64, capacity as u64) >= 0 {
         return load as u64;
     }
     4294967296

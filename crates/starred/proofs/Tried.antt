@@ -13,7 +13,7 @@ use Rattle.file_network.specs.Inputs.{networkInputBy, networkRead}
 use Rattle.feeding.specs.Below.{sumTo, allTo, anyTo, leastTo, lowestFrom, lowest, those, tabulate}
 use Rattle.feeding.specs.Networks.{gridOf, netOf}
 use Rattle.feeding.specs.Parts.{touches, far, relabel, merge, link, labels, label, joined?, sound?, live?}
-use Rattle.feeding.specs.Loads.{leads, elementLoad, above, elementOver, lowestOver}
+use Rattle.feeding.specs.Loads.{leads, elementLoad, margin, above, elementOver, lowestOver}
 use Rattle.feeding.specs.Safety.{loopAt, looped?, paired?, faultLive?, treePlace, pairPlace, faultPlace, safe?}
 use Rattle.feeding.specs.Restoration.{spoiled?, clean, restorable?, waits?, operable?, operablesBy, restored?}
 use Rattle.feeding.specs.Plans.{put, run, operations, sweep, printedForm, flip}
@@ -41,7 +41,7 @@ use Rattle.starred.specs.Tables.{head, element, joins, networkB, network
 pub tried : map (λ c. prints (c .program) (c .input)) cases ≡ map (λ c. c .printed) cases
 unfolding emptyNetwork nextStage word lengthOf frameRulesBy headRules flagsRules plainLinkRules guardRules linkRules guardOf planHeadRules stepRules fieldRules nothingSeen networkSeen linksSeen recordRulesBy
     dueBy recordsBy narrowElement elementOf linkOf withElement withLink endOnBy linksOnBy elementsOnBy networkFileBy networkInputBy networkRead sumTo allTo anyTo leastTo lowestFrom lowest
-    those tabulate gridOf netOf touches far relabel merge link labels label joined? sound? live? leads elementLoad above elementOver
+    those tabulate gridOf netOf touches far relabel merge link labels label joined? sound? live? leads elementLoad margin above elementOver
     lowestOver loopAt looped? paired? faultLive? treePlace pairPlace faultPlace safe? spoiled? clean restorable? waits? operable? operablesBy
     restored? put run stepsCost operations operated guards? guardCost costOf sweep printedForm flip switchesCost setCost brokenAt safety limited andThen acceptanceBy unadmitted handedOut startWith
     acceptedFrom acceptedRead worksBy firstIf noDearer better best plannedBy printedPlan sumsOver sumsAfter emptyPlan withOne planWith endBytes digits decimal field planLine

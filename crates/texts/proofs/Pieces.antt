@@ -1,15 +1,23 @@
 -- Pieces that are put one behind the other are the line, and a line put from the start of a buffer stands in front of it. By the laws of stores.
 -- Assumes nothing.
 use mathlib.Core.Path.{_≡_, refl, ap, sym, _∙_}
+use mathlib.Core.Bool.{Bool, true, false, false≢true}
 use mathlib.Core.List.{List, [], _∷_, _++_}
-use Prim.Native.Nat.{ℕ, _+_, _/_, _%_, _^_, _<_, _≤_}
+use Prim.Native.Nat.{ℕ, suc, _+_, _-_, _/_, _%_, _^_, _<_, _≤_}
 use native.Mathlib.Nat.{add-assoc, zero-add}
 use native.Mathlib.Numerals.{add-one}
 use native.Mathlib.Omega.{arith}
+use lib.IntN.{ℤ, pos, negsuc, natAbs}
+use lib.Dec.{T}
+use lib.Signed.{ltZ, mag, nonNeg}
+use mir.Syntax.{w64}
+use mir.Val.{Fits, SFits, toZ, ofZ}
+use mir.Facts.{toZ-ofZ}
+use borrow.Author.Tests.{ltb-true, lt-ltb}
 use lib.ListN.{length, getD, take, drop, set, length-append, length-take}
 use lib.Seq.{sets, take-suc, length-take-le, take-at}
 use Rattle.network.proofs.Stores.{stored-behind, sets-front}
-use Rattle.texts.specs.Texts.{decimal, field, feed, lineOf, inFront, Counted}
+use Rattle.texts.specs.Texts.{decimal, field, signedField, feed, lineOf, inFront, Counted}
 use Rattle.texts.proofs.Digits.{decimal-one, decimal-more, decimal-16, decimal-64}
 
 -- bytes put at i of a list, with the place behind them
@@ -66,6 +74,84 @@ field-64 n h = omega (arith, field-length n, decimal-64 n h)
 
 pub field-16 : (n : ℕ) → n < 65536 → length (field n) ≤ 6
 field-16 n h = omega (arith, field-length n, decimal-16 n h)
+
+-- ---- a signed number
+
+-- what the test of its sign on its bits tells
+module _ (z : ℤ) (fit : SFits w64 z) where
+  sign-of : (t : Bool) → ltZ (toZ w64 (ofZ w64 z)) (pos 0) ≡ t → ltZ z (pos 0) ≡ t
+  sign-of t e = ap (λ (y : ℤ). ltZ y (pos 0)) (sym (toZ-ofZ fit)) ∙ e
+
+  -- below 0
+  module _ (below : ltZ (toZ w64 (ofZ w64 z)) (pos 0) ≡ true) where
+    -- the number that the bits turned round have
+    turned : toZ w64 (18446744073709551615 - ofZ w64 z) ≡ pos (mag z)
+    turned = go z fit (sign-of true below)
+      where
+        go : (y : ℤ) → SFits w64 y → ltZ y (pos 0) ≡ true → toZ w64 (18446744073709551615 - ofZ w64 y) ≡ pos (mag y)
+        go (pos n) f h = absurd (omega (arith, ltb-true n 0 h))
+        go (negsuc n) f h =
+            let low : 18446744073709551615 - ofZ w64 (negsuc n) ≡ n = omega (arith, f .sfits) in
+            rw low (rw (lt-ltb n (2 ^ 63) (f .sfits)))
+
+    pub cast-minus : T (nonNeg (toZ w64 (18446744073709551615 - ofZ w64 z))) × Fits w64 (natAbs (toZ w64 (18446744073709551615 - ofZ w64 z)))
+    cast-minus = rw turned (tt, omega (arith, fit .sfits))
+
+    pub add-minus : Fits w64 (natAbs (toZ w64 (18446744073709551615 - ofZ w64 z)) + 1)
+    add-minus = rw turned (omega (arith, fit .sfits))
+
+    pub size-minus : natAbs (toZ w64 (18446744073709551615 - ofZ w64 z)) + 1 ≡ natAbs z
+    size-minus = ap (λ (y : ℤ). natAbs y + 1) turned ∙ go z (sign-of true below)
+      where
+        go : (y : ℤ) → ltZ y (pos 0) ≡ true → mag y + 1 ≡ natAbs y
+        go (pos n) h = absurd (omega (arith, ltb-true n 0 h))
+        go (negsuc n) h = omega arith
+
+    pub signed-minus : signedField z ≡ (32 ∷ 45 ∷ []) ++ decimal (natAbs z)
+    unfolding signedField
+    signed-minus = go z (sign-of true below)
+      where
+        go : (y : ℤ) → ltZ y (pos 0) ≡ true → signedField y ≡ (32 ∷ 45 ∷ []) ++ decimal (natAbs y)
+        go (pos n) h = absurd (omega (arith, ltb-true n 0 h))
+        go (negsuc n) h = refl
+
+  -- not below 0
+  module _ (above : ltZ (toZ w64 (ofZ w64 z)) (pos 0) ≡ false) where
+    pub cast-plus : T (nonNeg (toZ w64 (ofZ w64 z))) × Fits w64 (natAbs (toZ w64 (ofZ w64 z)))
+    cast-plus = rw (toZ-ofZ fit) (go z fit (sign-of false above))
+      where
+        go : (y : ℤ) → SFits w64 y → ltZ y (pos 0) ≡ false → T (nonNeg y) × Fits w64 (natAbs y)
+        go (pos n) f h = (tt, omega (arith, f .sfits))
+        go (negsuc n) f h = absurd (false≢true (sym h))
+
+    pub signed-plus : signedField z ≡ field (natAbs z)
+    unfolding signedField
+    signed-plus = go z (sign-of false above)
+      where
+        go : (y : ℤ) → ltZ y (pos 0) ≡ false → signedField y ≡ field (natAbs y)
+        go (pos n) h = refl
+        go (negsuc n) h = absurd (false≢true (sym h))
+
+pub minus-length : (z : ℤ) → signedField z ≡ (32 ∷ 45 ∷ []) ++ decimal (natAbs z) → length (signedField z) ≡ 2 + length (decimal (natAbs z))
+minus-length z is = ap length is ∙ length-append (32 ∷ 45 ∷ []) (decimal (natAbs z))
+
+-- put by pieces; x is the size that the writer hands on
+pub minus-put : (l l₁ l₂ : List ℕ) (at i j x : ℕ) (z : ℤ) → signedField z ≡ (32 ∷ 45 ∷ []) ++ decimal (natAbs z) → x ≡ natAbs z
+    → Put l at l₁ i (32 ∷ 45 ∷ []) → Put l₁ i l₂ j (decimal x) → Put l at l₂ j (signedField z)
+minus-put l l₁ l₂ at i j x z is e sign number = rw is (put-behind l l₁ l₂ at i j (32 ∷ 45 ∷ []) (decimal (natAbs z)) sign (rw e at number))
+
+pub plus-put : (l l′ : List ℕ) (at j x : ℕ) (z : ℤ) → signedField z ≡ field (natAbs z) → x ≡ natAbs z → Put l at l′ j (field x) → Put l at l′ j (signedField z)
+plus-put l l′ at j x z is e put = rw is (rw e at put)
+
+-- at most 22 bytes
+signed-64 : (z : ℤ) → SFits w64 z → length (signedField z) ≤ 22
+unfolding signedField
+signed-64 (pos n) f = omega (arith, field-64 n (omega (arith, f .sfits)))
+signed-64 (negsuc n) f = omega (arith, decimal-64 (suc n) (omega (arith, f .sfits)))
+
+-- read back from its bits
+pub signed-bits : (z : ℤ) → SFits w64 z → length (signedField (toZ w64 (ofZ w64 z))) ≤ 22
+signed-bits z f = rw (toZ-ofZ f) (signed-64 z f)
 
 -- ---- a line: a word, one to three fields and the line feed; x, y and z are the numbers that the writer hands on
 

@@ -5,6 +5,7 @@ use mathlib.Core.Bool.{true, false}
 use mathlib.Core.List.{List, [], _∷_, _++_}
 use Prim.Native.Nat.{ℕ, zero, suc, _+_, _/_, _%_, _≤_}
 use lib.Dec.{ltb}
+use lib.IntN.{ℤ, pos, negsuc}
 use lib.ListN.{length, take, drop}
 use Rattle.network.specs.declared.refusal.Refusal.{Refusal}
 use Rattle.network.specs.Refusals.{ruleNumber}
@@ -20,6 +21,11 @@ decimal n = digits n n
 -- "one blank stands between fields"
 unfoldable pub field : ℕ → List ℕ
 field n = 32 ∷ decimal n
+
+-- a signed number, with a minus sign in front where it is below 0, as a field
+unfoldable pub signedField : ℤ → List ℕ
+signedField (pos n) = field n
+signedField (negsuc n) = 32 ∷ 45 ∷ decimal (suc n)
 
 -- "each line .. ends with one line feed"
 abbrev pub feed : List ℕ

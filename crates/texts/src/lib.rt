@@ -4,9 +4,10 @@ use network::refusal::Refusal;
 ghost use mathlib.Core.Path.{_≡_};
 ghost use Prim.Native.Nat.{_+_, _≤_};
 ghost use mathlib.Core.List.{[], _∷_};
+ghost use lib.IntN.{natAbs};
 ghost use lib.ListN.{length};
 ghost use lib.Seq.{sets};
-ghost use Rattle.texts.specs.Texts.{decimal, field, lineOf, refusedLine, inFront};
+ghost use Rattle.texts.specs.Texts.{decimal, field, signedField, lineOf, refusedLine, inFront};
 
 // A fixed text.
 pub fn put_text(out: &mut [u8], at: usize, text: &[u8]) -> usize
@@ -45,6 +46,30 @@ pub fn put_field(out: &mut [u8], at: usize, n: u64) -> usize
 {
     out[at] = 32;
     put_number(out, at + 1, n)
+}
+
+// The size of a signed number: where it is below 0, its bits turned round are one less.
+fn size_of(n: i64) -> u64
+    ensures { λ r. ⌜ r ≡ natAbs n ⌝ }
+{
+    if n < 0 {
+        return !n as u64 + 1;
+    }
+    n as u64
+}
+
+// A blank and a signed number.
+pub fn put_signed(out: &mut [u8], at: usize, n: i64) -> usize
+    requires { ⌜ at + length (signedField n) ≤ length (now out) ⌝ }
+    ensures { λ r. ⌜ r ≡ at + length (signedField n) ⌝ }
+    ensures { λ _. ⌜ now (out .exit) ≡ sets (now (out .entry)) at (signedField n) ⌝ }
+{
+    let size = size_of(n);
+    if n < 0 {
+        let next = put_text(out, at, b" -");
+        return put_number(out, next, size);
+    }
+    put_field(out, at, size)
 }
 
 // The line feed that ends a line.

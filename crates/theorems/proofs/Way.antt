@@ -9,6 +9,7 @@ use Rattle.feeding.specs.Parts.{Config}
 use Rattle.feeding.specs.Safety.{Safe}
 use Rattle.feeding.specs.Restoration.{Operable}
 use Rattle.feeding.specs.Plans.{Step, GoodStep, Good, ValidPlan, put, run}
+use Rattle.feeding.proofs.Margins.{bears-le, le-bears}
 use Rattle.feeding.proofs.Printed.{run-safe}
 use Rattle.theorems.specs.Words.{OnTheWay, Operates}
 
@@ -22,7 +23,7 @@ valid-way net start q valid = record {
   radial = λ front rest e. safe front rest e .tree;
   one-source = λ front rest e. safe front rest e .one;
   clear = λ front rest e. safe front rest e .clear;
-  within = λ front rest e. safe front rest e .within;
+  within = λ front rest e x via f. bears-le (net .grid) x _ (safe front rest e .within x via f);
   fed = valid .meets;
 }
   where
@@ -70,7 +71,7 @@ valid-operates net q valid = record {
 pub way-valid : (net : Net) (q : List Step) → Operates net q → OnTheWay net q → ValidPlan net q
 way-valid net q o w = record {
   good = good-from net (Operable net) (net .startClosed) q (record {
-    safe = λ front rest e. record { tree = w .radial front rest e; one = w .one-source front rest e; clear = w .clear front rest e; within = w .within front rest e };
+    safe = λ front rest e. record { tree = w .radial front rest e; one = w .one-source front rest e; clear = w .clear front rest e; within = λ x via f. le-bears (net .grid) x _ (w .within front rest e x via f) };
     operable = o .operable;
     changes = o .changes;
   });

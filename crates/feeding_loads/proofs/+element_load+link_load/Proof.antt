@@ -1,12 +1,13 @@
 -- `element_load` and `link_load` answer load and lowest overload: a walk over the element's own ends; each call takes one off the depth.
 -- Assumes nothing.
-use Prim.Native.Nat.{ℕ, _-_, _/_, _<_}
+use Prim.Native.Nat.{ℕ, _-_, _/_, _^_, _<_}
 use mathlib.Core.Logic.{⊎-elim}
 use native.Mathlib.Omega.{arith}
+use Rattle.feeding.specs.Networks.{at}
 use Rattle.feeding.specs.Parts.{closedIn}
 use Rattle.feeding_loads.specs.Walks.{walkGrid, nearAt}
 use Rattle.feeding_loads.proofs.Rounds.{Walked}
-use Rattle.feeding_loads.proofs.Lending.{turn-start, turn-none, turn-done, turn-below, turn-later, turn-on, turn-via}
+use Rattle.feeding_loads.proofs.Lending.{turn-start, turn-none, turn-own, turn-done, turn-sum, turn-below, turn-later, turn-on, turn-via}
 use Rattle.feeding_loads.proofs.Lending.{turn-open, turn-room, turn-room-by, link-turn-none, link-turn, link-turn-load}
 use borrow.Fn.Kinds.{In}
 use borrow.Fn.PlainCycle.{Measures, is, falls, and}
@@ -100,7 +101,17 @@ element-load-lower-over-requires : (t : ℕ) → element-load-lts.Need-lower-ove
   link-load-below t,
   link-load.Post,
 ) (element-load-at t) element-load.Post element-load-Inv-loop element-load-μ-loop
-element-load-lower-over-requires t c κs = tt
+element-load-lower-over-requires t c κs =
+    let a = c .before .before .before .before .before .before .before .before .before .args in
+    let p = c .before .before .before .before .before .before .before .before .before .pre .1 in
+    let own : at (a .load .now) (a .e) < 2 ^ 63 =
+    omega (
+      arith,
+      p .1 .1,
+      turn-own (a .head .now) (a .next .now) (a .far .now) (a .closed .now) (a .load .now) (a .capacity .now) (a .elements) (a .links) (p .0)
+          (a .depth - 1) (a .e) (a .via) (a .depth) (omega arith),
+    ) in
+    own
 
 element-load-returns : (t : ℕ) → element-load-lts.Need-returns (
   lower-over-reads.Asked,
@@ -300,7 +311,16 @@ element-load-lower-over-requires-2 : (t : ℕ) → element-load-lts.Need-lower-o
   link-load-below t,
   link-load.Post,
 ) (element-load-at t) element-load.Post element-load-Inv-loop element-load-μ-loop
-element-load-lower-over-requires-2 t c κs = tt
+element-load-lower-over-requires-2 t c κs =
+    let a = c .before .before .before .before .before .before .before .before .before .before .before .before .args in
+    let p = c .before .before .before .before .before .before .before .before .before .before .before .before .pre .1 in
+    let n = c .before .before .loop in
+    omega (
+      arith,
+      p .1 .1,
+      turn-sum (a .head .now) (a .next .now) (a .far .now) (a .closed .now) (a .load .now) (a .capacity .now) (a .elements) (a .links) (p .0)
+          (a .depth - 1) (a .e) (a .via) (n .sum) (n .over) (n .j) (n .inv) (a .depth) (omega arith) (omega arith),
+    )
 
 element-load-returns-2 : (t : ℕ) → element-load-lts.Need-returns-2 (
   lower-over-reads.Asked,
