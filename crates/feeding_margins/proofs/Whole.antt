@@ -80,7 +80,7 @@ module _ (n : Network) (w : WellFormed n) where
       unfolding walkGrid netOf gridOf
       carries-all s k q = omega (
         arith,
-        load-same (netOf n .grid) (walkGrid (n .elements) (n .links) (own .far) (n .load) (n .load)) (formed-net n w) shaped (closedIn closed) (2 * n .elements) s (n .links) k,
+        load-same (netOf n .grid) (walkGrid (n .elements) (n .links) (own .far) (n .load) (n .load)) (formed-net n w) shaped (closedIn closed) (closedIn closed) (λ _ _. refl) (2 * n .elements) s (n .links) k,
         load-at-most (netOf n .grid) (formed-net n w) (closedIn closed) (safe-bridges (netOf n .grid) (formed-net n w) (closedIn closed) (safe .tree)) s (n .links) k (start refl),
         total-small,
       )
@@ -89,7 +89,7 @@ module _ (n : Network) (w : WellFormed n) where
       pub loads-are : loadsStored (walkGrid (n .elements) (n .links) (own .far) (n .load) (n .load)) (closedIn closed) (isIn sound) (replicate 64 unfed)
           ≡ loadsOf (netOf n .grid) (closedIn closed)
       unfolding loadsOf
-      loads-are = sym (loads-same (netOf n .grid) (walkGrid (n .elements) (n .links) (own .far) (n .load) (n .load)) (formed-net n w) shaped (closedIn closed)
+      loads-are = sym (loads-same (netOf n .grid) (walkGrid (n .elements) (n .links) (own .far) (n .load) (n .load)) (formed-net n w) shaped (closedIn closed) (closedIn closed) (λ _ _. refl)
           (sound? (netOf n .grid)) (isIn sound) (replicate 64 unfed) (λ s k. sym (sound-at sound sound-is s (inside s k))))
 
       full : length (loadsOf (netOf n .grid) (closedIn closed)) ≡ 64
