@@ -172,15 +172,15 @@ size_t tamchuwe_mark_text(const uint8_t *input, size_t length, uint8_t *out, siz
  * `better` is TAMCHUWE_FIRST, TAMCHUWE_SECOND or TAMCHUWE_NEITHER: VALID beats the rest, then the lower cost; an
  * equal cost goes to the first. The part that is handed back are the step records of the better file, without its plan
  * head and its end: the `length` bytes of `input` from `offset` on. With TAMCHUWE_NEITHER it is empty, length 0, at the
- * first file's first step. */
+ * first file's first step. Look at the answer first: a refusal has 0, as TAMCHUWE_FIRST is, where `better` stands. */
 uint64_t tamchuwe_final(const uint8_t *input, size_t length, uint64_t *values, size_t values_room, size_t *count);
 
 /* The lines that the program `trial_final` prints for the same input: both marks, or REFUSED. Answer and `out` as for
  * tamchuwe_plan_text. */
 size_t tamchuwe_final_text(const uint8_t *input, size_t length, uint8_t *out, size_t room);
 
-/* As tamchuwe_final, of three files lent apart. `offset` counts from the first byte of the better
- * file, with TAMCHUWE_NEITHER from that of the first file. */
+/* As tamchuwe_final, of three files lent apart. `offset` counts from the first byte of the better file, with
+ * TAMCHUWE_NEITHER from that of the first file. */
 uint64_t tamchuwe_final_apart(const uint8_t *network, size_t network_length, const uint8_t *first, size_t first_length,
                               const uint8_t *second, size_t second_length, uint64_t *values, size_t values_room,
                               size_t *count);

@@ -2,7 +2,7 @@
 -- Assumes nothing.
 use mathlib.Core.Path.{_≡_}
 use mathlib.Core.List.{List, []}
-use Prim.Native.Nat.{ℕ, _+_, _-_, _≤_, _<_}
+use Prim.Native.Nat.{ℕ, _+_, _-_, _*_, _≤_, _<_}
 use lib.Dec.{ltb}
 use lib.ListN.{length, take, drop}
 use Rattle.network.specs.Refusals.{pick}
@@ -40,6 +40,13 @@ unfoldable pub betterSteps : Plan → Plan → Better → List ℕ
 betterSteps p q First = stepsBytes p (p .steps)
 betterSteps p q Second = stepsBytes q (q .steps)
 betterSteps p q Neither = []
+
+-- where they stand, with the two files at these places of what was lent: behind the 6 bytes of the plan head, 8 for each step; "If neither is valid,
+-- the part is the first file's, empty."
+pub data StandsAt (first second : ℕ) (p q : Plan) : Part → Type 0 where
+  of-first : StandsAt first second p q (record { better = First; offset = first + 6; length = 8 * p .steps })
+  of-second : StandsAt first second p q (record { better = Second; offset = second + 6; length = 8 * q .steps })
+  of-neither : StandsAt first second p q (record { better = Neither; offset = first + 6; length = 0 })
 
 -- ---- what computes: the better file
 

@@ -36,9 +36,9 @@ use Rattle.judge_marks.proofs.Marking.{marked-mark}
 use Rattle.judge_line.specs.MarkLines.{markLine}
 use Rattle.judge.specs.Judging.{markRead, markAccepted, markOfRead, markForBy, markFor}
 use Rattle.final_better.specs.declared.Better.{Better}
-use Rattle.final_better.specs.declared.Better.the-variants.{Neither}
+use Rattle.final_better.specs.declared.Better.the-variants.{First, Second, Neither}
 use Rattle.final_better.specs.declared.Part.{Part}
-use Rattle.final_better.specs.Better.{BetterBy, betterOf, betterPart, betterSteps, fileOf, partOf, startOf, partIn}
+use Rattle.final_better.specs.Better.{BetterBy, StandsAt, of-first, of-second, of-neither, betterOf, betterPart, betterSteps, fileOf, partOf, startOf, partIn}
 use Rattle.final_better.proofs.Marks.{better-of}
 use Rattle.final_better.proofs.Places.{behind-head, part-bytes, part-in-input}
 use Rattle.final_better.proofs.Accepted.{of-files, of-apart}
@@ -177,6 +177,29 @@ empty-at first second p h e neither =
     let is = e ∙ ap (partOf first second) neither in
     (ap (λ (x : Part). x .offset) is ∙ sym (behind-head first (omega arith)), ap (λ (x : Part). x .length) is)
 
+-- where the part stands
+stands : (start middle a b : ℕ) (p q : Plan) → a ≡ 10 + 8 * p .steps → b ≡ 10 + 8 * q .steps → (w : Better) (x : Part) → x ≡ partIn start middle (partOf a b w)
+    → StandsAt start middle p q x
+unfolding partIn partOf startOf
+stands start middle a b p q long other First x e =
+    let six = behind-head a (omega arith) in
+    let eight : a - 10 ≡ 8 * p .steps = omega arith in
+    subst (StandsAt start middle p q) (sym (e ∙ (λ i. record { better = First; offset = start + sym six i; length = eight i }))) of-first
+stands start middle a b p q long other Second x e =
+    let six = behind-head b (omega arith) in
+    let eight : b - 10 ≡ 8 * q .steps = omega arith in
+    subst (StandsAt start middle p q) (sym (e ∙ (λ i. record { better = Second; offset = middle + sym six i; length = eight i }))) of-second
+stands start middle a b p q long other Neither x e =
+    let six = behind-head a (omega arith) in
+    subst (StandsAt start middle p q) (sym (e ∙ (λ i. record { better = Neither; offset = start + sym six i; length = 0 }))) of-neither
+
+-- a file lent by itself stands at 0
+own-part : (a b : ℕ) (w : Better) (x : Part) → x ≡ partOf a b w → x ≡ partIn 0 0 (partOf a b w)
+unfolding partIn partOf startOf
+own-part a b First x e = e
+own-part a b Second x e = e
+own-part a b Neither x e = e
+
 -- ---- one input
 
 module _ (s : List ℕ) (bytes : Bytes s) (n : Network) (p q : Plan) (start middle : ℕ) (files : FinalOf s n p q start middle) (kept : Answered (netOf n) Accepted) where
@@ -221,6 +244,11 @@ module _ (s : List ℕ) (bytes : Bytes s) (n : Network) (p q : Plan) (start midd
       let f = final-files s (length s) (stated .0) _ (stated .1) in
       part-in-input s start middle (length s) (formed .first-behind) (formed .second-behind) (omega arith) (finalFor s .part .better) (finalFor s .part) final-part-is
       ∙ of-files s (n .links) start middle (length s) (f .due-second) (stated .0) p q bytes (f .first) (plan-input-size s (n .links) middle (length s) (stated .0) q (f .second) .0) (finalFor s .part .better)
+
+  pub final-stands : StandsAt start middle p q (finalFor s .part)
+  final-stands =
+      let size = final-size s (length s) (stated .0) _ (final-files s (length s) (stated .0) _ (stated .1)) in
+      stands start middle (middle - start) (length s - middle) p q (omega (arith, size .first-long)) (omega (arith, size .second-long)) _ _ final-part-is
 
   pub final-empty : finalFor s .part .better ≡ Neither → (finalFor s .part .offset ≡ start + 6) × (finalFor s .part .length ≡ 0)
   unfolding inInput partIn startOf
@@ -290,6 +318,11 @@ module _ (network first second : List ℕ) (bytes : Bytes network) (n : Network)
   files-records one other =
       let f = apart-files network first second _ (apart-stated .0) _ (apart-stated .1) in
       of-apart first second (n .links) (length first) (length second) (f .due-second) (apart-stated .0) p q one other (f .first-is) (f .second-is) (filesFor network first second .part .better)
+
+  pub files-stand : StandsAt 0 0 p q (filesFor network first second .part)
+  files-stand =
+      let size = apart-size network first second _ (apart-stated .0) _ (apart-files network first second _ (apart-stated .0) _ (apart-stated .1)) in
+      stands 0 0 (length first) (length second) p q (omega (arith, size .first-long)) (omega (arith, size .second-long)) _ _ (own-part _ _ _ _ files-part-is)
 
   pub files-empty : filesFor network first second .part .better ≡ Neither → (filesFor network first second .part .offset ≡ 6) × (filesFor network first second .part .length ≡ 0)
   files-empty =

@@ -33,10 +33,10 @@ use Rattle.judge_marks.specs.Marks.{Marked}
 use Rattle.judge.specs.Judging.{markFor}
 use Rattle.final_better.specs.declared.Better.{Better}
 use Rattle.final_better.specs.declared.Better.the-variants.{Neither}
-use Rattle.final_better.specs.Better.{BetterBy, betterPart, betterSteps, fileOf}
+use Rattle.final_better.specs.Better.{BetterBy, StandsAt, betterPart, betterSteps, fileOf, partIn}
 use Rattle.final_better.proofs.Marks.{better-only}
 use Rattle.final_judge.specs.Finals.{FirstRuleFinal, in-files, in-network, StatesFinal, HandsNothing, FinalReply, FilesReply, decidedRead, inInput, finalFor, filesFor, decidedLines}
-use Rattle.final_judge.proofs.Returning.{final-is, files-is}
+use Rattle.final_judge.proofs.Returning.{final-is, files-is, final-refused-exactly, files-refused-exactly}
 use Rattle.theorems.proofs.Finals as Finals
 use Rattle.theorems.specs.Words.{markText, finalText, filesText}
 
@@ -65,6 +65,10 @@ module _ (s : List ℕ) (bytes : Bytes s) (n : Network) (p q : Plan) (start midd
   pub part-is : take (finalFor s .part .length) (drop (finalFor s .part .offset) s) ≡ betterSteps p q (finalFor s .part .better)
   part-is = Finals.final-records s bytes n p q start middle files kept
 
+  -- and where they stand: which file, offset and length
+  pub part-at : StandsAt start middle p q (finalFor s .part)
+  part-at = Finals.final-stands s bytes n p q start middle files kept
+
   -- ---- "VALID beats the rest, then the lower cost; an equal cost goes to the first file."
 
   pub better-is : (a b : Mark) → Marked (netOf n) (stepsOf p) a → Marked (netOf n) (stepsOf q) b → (w : Better) → (finalFor s .part .better ≡ w) ↔ BetterBy a b w
@@ -91,9 +95,12 @@ module _ (network first second : List ℕ) (bytes : Bytes network) (n : Network)
   pub apart-part-is : Bytes first → Bytes second → betterPart first second (filesFor network first second .part .better) ≡ betterSteps p q (filesFor network first second .part .better)
   apart-part-is = Finals.files-records network first second bytes n p q files kept
 
-  pub apart-part-at : (w : Better) → w ≡ filesFor network first second .part .better
+  pub apart-part-bytes : (w : Better) → w ≡ filesFor network first second .part .better
       → take (filesFor network first second .part .length) (drop (filesFor network first second .part .offset) (fileOf first second w)) ≡ betterPart first second w
-  apart-part-at = Finals.files-part network first second bytes n p q files kept
+  apart-part-bytes = Finals.files-part network first second bytes n p q files kept
+
+  pub apart-part-at : StandsAt 0 0 p q (filesFor network first second .part)
+  apart-part-at = Finals.files-stand network first second bytes n p q files kept
 
   pub apart-better-is : (a b : Mark) → Marked (netOf n) (stepsOf p) a → Marked (netOf n) (stepsOf q) b → (w : Better)
       → (filesFor network first second .part .better ≡ w) ↔ BetterBy a b w
@@ -114,6 +121,14 @@ pub apart-refused-exactly : (network first second : List ℕ) → Bytes network 
     → (filesText network first second ≡ refusedLine f) ↔ FirstRuleFinal (FilesOf network first second) (FirstBrokenFiles network first second) f
 apart-refused-exactly = Finals.files-printed
 
+-- and so is the answer that the library gives
+pub answer-exactly : (s : List ℕ) → Bytes s → (f : Refusal) → (finalFor s .answer ≡ Refused f) ↔ FirstRuleFinal (StatesFinal s) (FirstBrokenFinal s) f
+answer-exactly = final-refused-exactly
+
+pub apart-answer-exactly : (network first second : List ℕ) → Bytes network → (f : Refusal)
+    → (filesFor network first second .answer ≡ Refused f) ↔ FirstRuleFinal (FilesOf network first second) (FirstBrokenFiles network first second) f
+apart-answer-exactly = files-refused-exactly
+
 -- "A refusal hands out no plan, mark or partial network."
 pub refused-hands-nothing : (s : List ℕ) (f : Refusal) → finalFor s .answer ≡ Refused f → HandsNothing f (finalFor s)
 refused-hands-nothing = Finals.final-nothing
@@ -129,6 +144,14 @@ network-after-both s bytes n p q start middle files f broken = refused-exactly s
 
 pub files-before-network : (s : List ℕ) → Bytes s → (f : Refusal) → FirstBrokenFinal s f → finalText s ≡ refusedLine f
 files-before-network s bytes f broken = refused-exactly s bytes f .1 (in-files broken)
+
+pub apart-network-after-both : (network first second : List ℕ) → Bytes network → (n : Network) (p q : Plan) → FilesOf network first second n p q → (f : Refusal)
+    → Answered (netOf n) (Refused f) → filesText network first second ≡ refusedLine f
+apart-network-after-both network first second bytes n p q files f broken = apart-refused-exactly network first second bytes f .1 (in-network n p q files broken)
+
+pub apart-files-before-network : (network first second : List ℕ) → Bytes network → (f : Refusal) → FirstBrokenFiles network first second f
+    → filesText network first second ≡ refusedLine f
+apart-files-before-network network first second bytes f broken = apart-refused-exactly network first second bytes f .1 (in-files broken)
 
 -- ---- "files lent apart each meet rule 13."
 
@@ -151,6 +174,22 @@ pub same-reply : (network first second : List ℕ) → KeepsNetwork network → 
 unfolding filesFor finalFor inInput
 same-reply network first second keeps kept =
     ap (λ (o : Reading TwoPlans). decidedLines (decidedRead (finalRead o))) (kept-same-reply network first second keeps kept)
+
+-- with the same answer, marks, better file and length of its part
+pub same-decided : (network first second : List ℕ) → KeepsNetwork network → KeepsPlan first (word network 4) (word network 6)
+    → (filesFor network first second .answer ≡ finalFor (network ++ first ++ second) .answer)
+    × ((filesFor network first second .marks ≡ finalFor (network ++ first ++ second) .marks)
+    × ((filesFor network first second .part .better ≡ finalFor (network ++ first ++ second) .part .better)
+    × (filesFor network first second .part .length ≡ finalFor (network ++ first ++ second) .part .length)))
+unfolding filesFor finalFor inInput partIn
+same-decided network first second keeps kept =
+    let same = kept-same-reply network first second keeps kept in (
+      ap (λ (o : Reading TwoPlans). decidedRead (finalRead o) .answer) same,
+      (
+        ap (λ (o : Reading TwoPlans). decidedRead (finalRead o) .marks) same,
+        (ap (λ (o : Reading TwoPlans). decidedRead (finalRead o) .part .better) same, ap (λ (o : Reading TwoPlans). decidedRead (finalRead o) .part .length) same),
+      ),
+    )
 
 -- ---- item 1: "the first 8,192 bytes decide, here and in all later items but 14."
 
