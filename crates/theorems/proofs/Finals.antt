@@ -4,7 +4,7 @@
 use mathlib.Core.Path.{_≡_, refl, sym, ap, ap₂, subst, _∙_}
 use mathlib.Core.List.{List, _++_}
 use mathlib.Core.Logic.{_↔_}
-use Prim.Native.Nat.{ℕ, _+_, _-_, _≤_}
+use Prim.Native.Nat.{ℕ, _+_, _-_, _*_, _≤_}
 use native.Mathlib.Omega.{arith}
 use lib.ListN.{length, take, drop}
 use Rattle.network.specs.declared.Network.{Network}
@@ -38,7 +38,7 @@ use Rattle.judge.specs.Judging.{markRead, markAccepted, markOfRead, markForBy, 
 use Rattle.final_better.specs.declared.Better.{Better}
 use Rattle.final_better.specs.declared.Better.the-variants.{First, Second, Neither}
 use Rattle.final_better.specs.declared.Part.{Part}
-use Rattle.final_better.specs.Better.{BetterBy, StandsAt, of-first, of-second, of-neither, betterOf, betterPart, betterSteps, fileOf, partOf, startOf, partIn}
+use Rattle.final_better.specs.Better.{BetterBy, StandsAt, of-first, of-second, of-neither, betterOf, betterPart, betterSteps, fileOf, firstStep, partOf, startOf, partIn}
 use Rattle.final_better.proofs.Marks.{better-of}
 use Rattle.final_better.proofs.Places.{behind-head, part-bytes, part-in-input}
 use Rattle.final_better.proofs.Accepted.{of-files, of-apart}
@@ -196,9 +196,9 @@ stands start middle a b p q long other Neither x e =
 -- a file lent by itself stands at 0
 own-part : (a b : ℕ) (w : Better) (x : Part) → x ≡ partOf a b w → x ≡ partIn 0 0 (partOf a b w)
 unfolding partIn partOf startOf
-own-part a b First x e = e
-own-part a b Second x e = e
-own-part a b Neither x e = e
+own-part a b First x e = let z : firstStep a ≡ 0 + firstStep a = omega arith in e ∙ (λ i. record { better = First; offset = z i; length = a - 10 })
+own-part a b Second x e = let z : firstStep b ≡ 0 + firstStep b = omega arith in e ∙ (λ i. record { better = Second; offset = z i; length = b - 10 })
+own-part a b Neither x e = let z : firstStep a ≡ 0 + firstStep a = omega arith in e ∙ (λ i. record { better = Neither; offset = z i; length = 0 })
 
 -- ---- one input
 
