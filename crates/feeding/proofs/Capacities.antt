@@ -14,7 +14,7 @@ use Rattle.feeding.proofs.Margins.{bears_le, le_bears}
 use Rattle.feeding.proofs.Sums.{sum_to_ext}
 
 module _ (g : Grid) (cap : ℕ → ℕ) where
-  joined_to : {c : Config} {a d : ℕ} → Joined g c d a → Joined (with_capacity g cap) c d a
+  joined_to : {c : Config} {d a : ℕ} → Joined g c d a → Joined (with_capacity g cap) c d a
   unfolding touches far
   joined_to here = here
   joined_to (over l k h t j) = over l k h t (joined_to j)

@@ -44,7 +44,7 @@ module _ (g : Grid) (c : Config) (n : ℕ) where
   along l k h t (inr r) = inr (record { x = r.x; y = r.y; spans = r.spans; first = over l k h t r.first; last = r.last })
 
   pub split : (c' : Config) → ((l : ℕ) → c' l ≡ true → (c l ≡ true) ⊎ (l ≡ n))
-      → {a d : ℕ} → Joined g c' d a → Joined g c d a ⊎ Crossing g c n d a
+      → {d a : ℕ} → Joined g c' d a → Joined g c d a ⊎ Crossing g c n d a
   split c' more here = inl here
   split c' more {d = d} (over {a = a} l k h t j) = go (more l h) (split c' more j)
     where

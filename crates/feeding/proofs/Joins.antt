@@ -62,10 +62,10 @@ module _ (g : Grid) (c : Config) where
   pub step : {d : ℕ} (l a b : ℕ) → l < g.K → c l ≡ true → Spans g l a b → Joined g c d b → Joined g c d a
   step l a b k h s j = over l k h (spans_touches g l a b s) (rw (spans_is_far g l a b s) j)
 
-  pub joined_trans : {a b d : ℕ} → Joined g c b a → Joined g c d b → Joined g c d a
+  pub joined_trans : {b a d : ℕ} → Joined g c b a → Joined g c d b → Joined g c d a
   joined_trans here j = j
   joined_trans (over l k h t i) j = over l k h t (joined_trans i j)
 
-  pub joined_sym : {a d : ℕ} → Joined g c d a → Joined g c a d
+  pub joined_sym : {d a : ℕ} → Joined g c d a → Joined g c a d
   joined_sym here = here
   joined_sym (over {a = a} l k h t i) = joined_trans (joined_sym i) (step l (far g l a) a k h (spans_sym (spans_far g l a t)) here)

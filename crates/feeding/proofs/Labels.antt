@@ -354,7 +354,7 @@ module _ (g : Grid) (formed : Formed g) (c : Config) where
           ∙ ih (omega (arith, eqb-false l n q)) e
           ∙ sym (at_open g.E g.end_a g.end_b c n (g.end_b l) p)
 
-  pub labels_complete : (n : ℕ) → n ≤ g.K → {a d : ℕ} → Joined g (below c n) d a → at (labels_after g c n) a ≡ at (labels_after g c n) d
+  pub labels_complete : (n : ℕ) → n ≤ g.K → {d a : ℕ} → Joined g (below c n) d a → at (labels_after g c n) a ≡ at (labels_after g c n) d
   unfolding below
   labels_complete n b here = refl
   labels_complete n b (over {a = a} l k h t j) = go (spans_far g l a t) ∙ labels_complete n b j

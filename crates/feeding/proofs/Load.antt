@@ -54,7 +54,7 @@ module _ (g : Grid) (c : Config) where
       home : far g l (far g m e) ≡ e
       home = ap (λ (x : ℕ). far g x (far g m e)) q ∙ spans_is_far g m _ _ (spans_sym (spans_far g m e (leads_touches g c e v m h)))
 
-  fed_along : {a d via : ℕ} → Fed g c a via → Joined g c d a → FedAt g c d
+  fed_along : {d a via : ℕ} → Fed g c a via → Joined g c d a → FedAt g c d
   fed_along {via = via} f here = record { via = via; fed = f }
   fed_along {via = via} f (over {a = a} l k h t j) = fed_along (next (eqb l via) refl).fed j
     where

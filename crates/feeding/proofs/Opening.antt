@@ -17,7 +17,7 @@ module _ (g : Grid) (c' c : Config) (sub : Opened c' c) where
   unfolding leads
   leads_mono e via l h = and_both (c l) _ (sub l (and_left (c' l) _ h)) (and_right (c' l) _ h)
 
-  pub joined_mono : {a d : ℕ} → Joined g c' d a → Joined g c d a
+  pub joined_mono : {d a : ℕ} → Joined g c' d a → Joined g c d a
   joined_mono here = here
   joined_mono (over l k h t j) = over l k (sub l h) t (joined_mono j)
 

@@ -28,7 +28,7 @@ run_append c (s ∷ p) q = run_append (put c s.link s.want) p q
 pub good_append : (net : Net) (op : ℕ → Type 0) (c : Config) (p q : List Step) → Good net op c p → Good net op (run c p) q → Good net op c (p ++ q)
 unfolding run Good
 good_append net op c [] q g h = h
-good_append net op c (s ∷ p) q g h = (g.0, good_append net op _ p q g.1 h)
+good_append net op c (s ∷ p) q g h = (g.0, good_append net op (put c s.link s.want) p q g.1 h)
 
 cost_append : (net : Net) (p q : List Step) → steps_cost net (p ++ q) ≡ steps_cost net p + steps_cost net q
 unfolding steps_cost
@@ -128,7 +128,7 @@ operations_sweep w pick l (suc n) =
 pub run_safe : (net : Net) (op : ℕ → Type 0) (c : Config) (q : List Step) → Safe net.grid c → Good net op c q → Safe net.grid (run c q)
 unfolding run Good
 run_safe net op c [] s g = s
-run_safe net op c (x ∷ q) s g = run_safe net op _ q g.0.safe g.1
+run_safe net op c (x ∷ q) s g = run_safe net op (put c x.link x.want) q g.0.safe g.1
 
 -- only operable switches change
 pub run_keeps : (net : Net) (op : ℕ → Type 0) (c : Config) (q : List Step) (l : ℕ) → (op l → ⊥) → Good net op c q → run c q l ≡ c l

@@ -42,7 +42,7 @@ module _ (g : Grid) (formed : Formed g) (c : Config) (e : ℕ) where
           (joined_mono g (below (in_part g c e) l) (below c l) (below_mono (in_part g c e) c l in_part_on) j)
 
   -- a path without the link l that starts in the part stays in it
-  stays : (l : ℕ) {a d : ℕ} → Joined g c e a → Joined g (without c l) d a → Joined g (without (in_part g c e) l) d a
+  stays : (l : ℕ) {d a : ℕ} → Joined g c e a → Joined g (without c l) d a → Joined g (without (in_part g c e) l) d a
   stays l i here = here
   stays l i (over {a = a} m k h t j) =
       over m k (without_in (in_part g c e) l m (in_part_in m on (first (spans_far g m a t))) (without_ne c l m h)) t (stays l next j)

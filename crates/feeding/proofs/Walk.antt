@@ -87,7 +87,7 @@ module _ (g : Grid) (c : Config) (bridges : Bridges g c) where
       never : ¬ Joined g (without c l) e b
       never i = apart l e b k (leads_on g c e via l h) (spans_far g l e (leads_touches g c e via l h)) i
 
-      plain : via ≡ g.K → {a d : ℕ} → Joined g (without c l) d a → Joined g (without c via) d a
+      plain : via ≡ g.K → {d a : ℕ} → Joined g (without c l) d a → Joined g (without c via) d a
       plain q here = here
       plain q (over m km p t i) = over m km (without_in c via m (without_on c l m p) (λ r. omega arith)) t (plain q i)
 

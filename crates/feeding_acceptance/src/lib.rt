@@ -1,5 +1,7 @@
 // Rules 14 to 18: a network that passed rules 1 to 13 and 20 is refused by the first that it breaks, or accepted, with
 // all that is known of it at the start.
+#![tactic(auto)]
+
 ghost use Rattle.std.specs.Prelude.{◌≡◌, length};
 ghost use Rattle.network.specs.Accepted.{WellFormed};
 ghost use Rattle.file_network.specs.Inputs.{network_input, network_read};

@@ -1,4 +1,6 @@
 // Whether every element that a source feeds stays within its capacity: a walk away from it that stops at the first element that does not.
+#![tactic(auto)]
+
 ghost use Rattle.std.specs.Prelude.{◌≡◌, ◌+◌, ◌<◌, ◌≤◌, ◌*◌, min};
 ghost use Rattle.feeding.specs.Parts.{closed_in};
 ghost use Rattle.feeding.specs.Loads.{within_from?};

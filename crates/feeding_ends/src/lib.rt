@@ -1,4 +1,6 @@
 // Each element's own links, as chained ends; made once per network.
+#![tactic(auto)]
+
 ghost use Rattle.std.specs.Prelude.{◌≡◌};
 ghost use Rattle.feeding.specs.Networks.{at, is_in};
 ghost use Rattle.feeding_ends.specs.Ends.{TwoEnds, own_ends};

@@ -1,4 +1,6 @@
 // The load test of one element: capacity minus load as a signed number. Every function that compares a load with a capacity asks it.
+#![tactic(auto)]
+
 ghost use Rattle.std.specs.Prelude.{◌≡◌, ◌<◌, ◌^◌};
 ghost use Rattle.feeding.specs.Loads.{margin};
 

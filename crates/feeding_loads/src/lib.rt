@@ -1,4 +1,6 @@
 // The load at an element and what a link carries, each by its own links; and the lowest element that is loaded above its capacity.
+#![tactic(auto)]
+
 ghost use Rattle.std.specs.Prelude.{◌≡◌, ◌<◌, ◌≤◌, ◌^◌, ◌*◌, ◌/◌, length};
 ghost use Rattle.feeding.specs.Parts.{closed_in};
 ghost use Rattle.feeding.specs.Loads.{element_load, link_load};

@@ -1,4 +1,6 @@
 // How near the limit a configuration is: the loads of all live elements by one walk from each source, and the live element with the least margin.
+#![tactic(auto)]
+
 ghost use Rattle.std.specs.Prelude.{◌≡◌, ◌<◌, ◌≤◌, ◌^◌, ◌*◌, ◌/◌, length, replicate};
 ghost use Rattle.network.specs.Accepted.{WellFormed};
 ghost use Rattle.feeding.specs.Below.{bits};

@@ -1,4 +1,6 @@
 // A number of each element added up over a part: a walk away from one of its elements, over closed links, that answers one number.
+#![tactic(auto)]
+
 ghost use Rattle.std.specs.Prelude.{◌≡◌, ◌+◌, ◌<◌, ◌^◌, ◌*◌};
 ghost use Rattle.feeding.specs.Parts.{closed_in};
 ghost use Rattle.feeding.specs.Loads.{element_load};

@@ -1,4 +1,6 @@
 // The parts of a configuration: a label for each element, which is the lowest element of its part, and where loops close.
+#![tactic(auto)]
+
 ghost use Rattle.std.specs.Prelude.{◌≡◌, ◌<◌, ◌≤◌, length};
 ghost use Rattle.feeding_parts.specs.Labelling.{Falls, AllBelow, EndsBelow, root_of, roots_of, parts_of, last_of_part};
 

@@ -1,4 +1,6 @@
 // The places of rules 14 to 16, by the labels of the parts and by sets.
+#![tactic(auto)]
+
 ghost use Rattle.std.specs.Prelude.{◌≡◌};
 ghost use Rattle.feeding.specs.Below.{lowest};
 ghost use Rattle.feeding_places.specs.Places.{LoopsReach, LastReach, least_looped, not_last, with_last};

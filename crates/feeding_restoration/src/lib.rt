@@ -1,4 +1,6 @@
 // Which elements closed links join to a set, and from it what a network's faults spoil and what can be restored: sets of elements, 1 for a member.
+#![tactic(auto)]
+
 ghost use Rattle.std.specs.Prelude.{◌≡◌};
 ghost use Rattle.network.specs.Accepted.{WellFormed};
 ghost use Rattle.feeding.specs.Below.{bits};

@@ -1,4 +1,6 @@
 // Whether a configuration is safe, and the rule of 14 to 17 that it breaks first, with its place.
+#![tactic(auto)]
+
 ghost use Rattle.std.specs.Prelude.{◌≡◌, ◌<◌, length, replicate};
 ghost use Rattle.network.specs.Accepted.{WellFormed};
 ghost use Rattle.feeding.specs.Networks.{net_of, at, is_in};

@@ -1,4 +1,6 @@
 // Sets of elements or links as arrays, 1 for a member and 0 for the others; each function makes one in one pass.
+#![tactic(auto)]
+
 ghost use Rattle.std.specs.Prelude.{◌≡◌, ◌<◌, length};
 ghost use Rattle.feeding.specs.Below.{bits};
 ghost use Rattle.feeding_sets.specs.Sets.{Reach, PartsReach, EndsReach, one_of, but_not, part_has, at_either_end, members};

@@ -1,4 +1,6 @@
 // What is known of a network at the start, in one value that is made once: its states, what is live and restorable, and which switches may be operated.
+#![tactic(auto)]
+
 ghost use Rattle.std.specs.Prelude.{◌≡◌};
 ghost use Rattle.network.specs.Accepted.{WellFormed};
 ghost use Rattle.network.specs.Networks.{empty_network};

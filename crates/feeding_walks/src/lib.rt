@@ -1,4 +1,6 @@
 // The lists of a walk in two arrays, so that a walk passes few pointers on; made once per network.
+#![tactic(auto)]
+
 ghost use Rattle.std.specs.Prelude.{◌≡◌, length};
 ghost use Rattle.feeding_walks.specs.Packing.{packed_ends, packed_rating};
 

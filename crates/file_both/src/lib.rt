@@ -1,4 +1,6 @@
 // The judge's input, a network file with a plan file directly behind it: every byte string has one reading.
+#![tactic(auto)]
+
 ghost use Rattle.std.specs.Prelude.{◌≡◌};
 ghost use Rattle.file_network.specs.Runs.{refused};
 ghost use Rattle.file_both.specs.Inputs.{plan_behind, both_input, both_read};

@@ -1,4 +1,6 @@
 // The fields of a record: the numbers in it, and rules 5 to 12 and 20 on those of each kind.
+#![tactic(auto)]
+
 ghost use Rattle.std.specs.Prelude.{◌≡◌, ◌+◌, ◌<◌, ◌≤◌, eqb, ltb, leb, length};
 ghost use Rattle.network.specs.Refusals.{first_broken};
 ghost use Rattle.network.specs.Accepted.{suits};

@@ -1,4 +1,6 @@
 // The input of a trial final, a network file and two plan files: in one input, or lent apart. All bytes have one reading.
+#![tactic(auto)]
+
 ghost use Rattle.std.specs.Prelude.{◌≡◌, ◌+◌, ◌<◌, ◌≤◌};
 ghost use Rattle.file_network.specs.Runs.{refused};
 ghost use Rattle.file_final.specs.Inputs.{counted_on, second_behind, plans_behind, final_input, second_lent, plans_lent, files_input, final_read};

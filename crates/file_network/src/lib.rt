@@ -1,4 +1,6 @@
 // The network file, and the input that is a network file alone: every byte string has one reading. Rule 13.
+#![tactic(auto)]
+
 pub mod reader;
 
 ghost use Rattle.std.specs.Prelude.{◌≡◌};

@@ -1,4 +1,6 @@
 // The plan file, and the input that is a plan file alone: every byte string has one reading.
+#![tactic(auto)]
+
 pub mod plan;
 pub mod reader;
 

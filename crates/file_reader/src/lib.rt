@@ -1,4 +1,6 @@
 // The record reader: it views the file as lent bytes plus an offset.
+#![tactic(auto)]
+
 ghost use Rattle.std.specs.Prelude.{◌≡◌, ◌-◌, length};
 ghost use Rattle.file_records.specs.Records.{due_at};
 ghost use Rattle.file_reader.specs.Readers.{behind, moved_on, moved_to};

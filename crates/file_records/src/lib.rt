@@ -1,4 +1,6 @@
 // One record: what stands at an offset, by rules 1 to 12 and 20, of which 5 to 12 and 20 are those of its fields.
+#![tactic(auto)]
+
 ghost use Rattle.std.specs.Prelude.{◌≡◌, ◌-◌, length};
 ghost use Rattle.file_fields.specs.Fields.{length_of};
 ghost use Rattle.file_fields.specs.Views.{seen_of};

@@ -1,4 +1,6 @@
 // Where reading stands in a file, and the table that says which record kinds may come there.
+#![tactic(auto)]
+
 ghost use Rattle.std.specs.Prelude.{◌≡◌};
 ghost use Rattle.file_stages.specs.Stages.{named_by, next_stage, after_last, stage_number};
 

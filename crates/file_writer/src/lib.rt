@@ -1,4 +1,6 @@
 // The plan file out, into a lent buffer.
+#![tactic(auto)]
+
 ghost use Rattle.std.specs.Prelude.{◌≡◌, ◌+◌, ◌*◌, ◌<◌, ◌≤◌, length};
 ghost use Rattle.std.proofs.lemmas.List.Edits.{sets};
 ghost use Rattle.file_writer.specs.Writing.{number, plan_head_bytes, step_bytes, steps_bytes, end_bytes, plan_length, written, buffer_after};

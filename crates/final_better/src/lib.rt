@@ -1,4 +1,6 @@
 // The better of two submitted plan files by their marks, and its step records: a part of the lent bytes, and where it stands.
+#![tactic(auto)]
+
 ghost use Rattle.std.specs.Prelude.{◌≡◌, [], ◌+◌, ◌-◌, ◌^◌, ◌<◌, take, drop};
 ghost use Rattle.final_better.specs.Better.{better_of, second_or_neither, step_records, better_part, first_step, part_of, part_in};
 

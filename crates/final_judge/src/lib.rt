@@ -1,5 +1,7 @@
 // The judge of a trial final: from a network file and two plan files, in one input or lent apart, to both marks, the better
 // file and its part.
+#![tactic(auto)]
+
 ghost use Rattle.std.specs.Prelude.{◌≡◌, length, take};
 ghost use Rattle.texts.specs.Texts.{in_front, Counted};
 ghost use Rattle.final_judge.specs.Finals.{FinalDecided, FilesDecided, FinalReply, FilesReply, ReadFormed, refused_final, marked_final, decided_read, final_for, files_for, decided_lines};

@@ -1,4 +1,6 @@
 // A text for a buffer that a host lends: put where it fits.
+#![tactic(auto)]
+
 ghost use Rattle.std.specs.Prelude.{◌≡◌, length};
 ghost use Rattle.host_texts.specs.Fitting.{text_in};
 

@@ -1,4 +1,6 @@
 // The planner's reply, the judge's mark and the marks of a final as numbers, for programs in other languages.
+#![tactic(auto)]
+
 ghost use Rattle.std.specs.Prelude.{◌≡◌, length};
 ghost use Rattle.host_values.specs.Values.{reply_kind, reply_values, mark_kind, mark_values, better_number, marked_values, final_kind, final_values, values_in};
 

@@ -1,4 +1,6 @@
 // The judge: from the bytes of a network file with a plan file directly behind it to the mark, and to its printed line.
+#![tactic(auto)]
+
 ghost use Rattle.std.specs.Prelude.{◌≡◌, length, take};
 ghost use Rattle.texts.specs.Texts.{in_front, Counted};
 ghost use Rattle.judge_line.specs.MarkLines.{mark_line};

@@ -1,4 +1,6 @@
 // Whether closing an open link keeps a safe configuration safe: a walk over the part of each end before, and one of loads from their source afterwards.
+#![tactic(auto)]
+
 ghost use Rattle.std.specs.Prelude.{◌≡◌, length, set, ◌<◌};
 ghost use Rattle.feeding.specs.Below.{tabulate};
 ghost use Rattle.feeding.specs.Networks.{at};

@@ -1,4 +1,6 @@
 // A submitted plan examined step by step, each step by the parts that it touches: its first bad step, and the lowest reason that fits.
+#![tactic(auto)]
+
 ghost use Rattle.std.specs.Prelude.{◌≡◌, not, eqb, set};
 ghost use Rattle.file_plan.specs.Accepted.{WellFormedPlan};
 ghost use Rattle.feeding.specs.Networks.{net_of, at, is_in};

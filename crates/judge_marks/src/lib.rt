@@ -1,4 +1,6 @@
 // What the judge says of a submitted plan: document 01's marks, and their laws; no function.
+#![tactic(auto)]
+
 use network::refusal::Refusal;
 
 // Why a step is bad.

@@ -1,4 +1,5 @@
 // Whether a safe configuration stays safe after a step, told by the parts that the step touches: definitions in specs/, laws in proofs/; no function.
+#![tactic(auto)]
 
 // What two parts are found to be that a closing would join.
 #[derive(Drop)]

@@ -1,4 +1,6 @@
 // The mark of a plan in an accepted network, and of two with the cheapest cost found once.
+#![tactic(auto)]
+
 ghost use Rattle.std.specs.Prelude.{◌≡◌, ◌||◌};
 ghost use Rattle.file_plan.specs.Accepted.{WellFormedPlan};
 ghost use Rattle.feeding.specs.Networks.{net_of};

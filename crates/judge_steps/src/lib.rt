@@ -1,4 +1,6 @@
 // A submitted plan carried out: the states that it leads to, its cost, and what is still dark then.
+#![tactic(auto)]
+
 ghost use Rattle.std.specs.Prelude.{◌≡◌, ◌≤◌, length};
 ghost use Rattle.network.specs.Accepted.{WellFormed};
 ghost use Rattle.file_plan.specs.Accepted.{WellFormedPlan};

@@ -1,4 +1,6 @@
 // Marks the plan file directly behind the network file on standard input, and prints the mark.
+#![tactic(auto)]
+
 use streams::Input;
 
 fn main() {

@@ -1,4 +1,6 @@
 // What a network is, and the records that its files are made of.
+#![tactic(auto)]
+
 pub mod refusal;
 
 ghost use Rattle.std.specs.Prelude.{◌≡◌};

@@ -1,4 +1,6 @@
 // Plans the network file on standard input, and prints the reply.
+#![tactic(auto)]
+
 use streams::Input;
 
 fn main() {

@@ -1,4 +1,6 @@
 // What a network file is answered: the outcome of the cheapest plan.
+#![tactic(auto)]
+
 ghost use Rattle.std.specs.Prelude.{◌≡◌};
 ghost use Rattle.feeding_start.specs.Starting.{Begun};
 ghost use Rattle.plan_outcome.specs.Outcomes.{outcome_of, outcome};

@@ -1,5 +1,7 @@
 // The sets of operable switches whose last configuration is radial, keeps faults from sources, feeds every restorable element and asks no more of a
 // source than it bears, tried in the set order: the search starts from the parts that stand while every operable switch is open.
+#![tactic(auto)]
+
 ghost use Rattle.std.specs.Prelude.{◌≡◌, ltb, length};
 ghost use Rattle.feeding.specs.Networks.{at, is_in, net_of};
 ghost use Rattle.feeding.specs.Costs.{set_cost};

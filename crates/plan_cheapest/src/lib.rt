@@ -1,4 +1,6 @@
 // The cheapest set of operable switches that restores a network; the first in the set order where several cost the same.
+#![tactic(auto)]
+
 ghost use Rattle.std.specs.Prelude.{◌≡◌};
 ghost use Rattle.feeding.specs.Networks.{net_of};
 ghost use Rattle.feeding.specs.Costs.{set_cost};

@@ -1,4 +1,6 @@
 // The printed form of a set of switches as a plan: the openings, then the closings, each by rising link number.
+#![tactic(auto)]
+
 ghost use Rattle.std.specs.Prelude.{◌≡◌, ◌+◌, ◌≤◌, length};
 ghost use Rattle.feeding.specs.Plans.{sweep};
 ghost use Rattle.file_plan.specs.PlanFiles.{empty_plan};

@@ -1,4 +1,6 @@
 // A plan that was found, as a list of steps: how it was found stays behind it. Here it is the printed form of the cheapest set of operable switches.
+#![tactic(auto)]
+
 ghost use Rattle.std.specs.Prelude.{◌≡◌};
 ghost use Rattle.feeding.specs.Networks.{net_of};
 ghost use Rattle.feeding.specs.Plans.{printed_form};

@@ -1,4 +1,6 @@
 // What a part of a configuration holds, as a number: 1 for a sound source, 2 for a faulty element, 4 for a restorable one.
+#![tactic(auto)]
+
 ghost use Rattle.std.specs.Prelude.{◌≡◌, ◌||◌, ◌≤◌, length};
 ghost use Rattle.feeding.specs.Below.{sum_to, gate};
 ghost use Rattle.plan_stops.specs.Holding.{holding, has_source, has_fault, has_need, waits_for, clash, together, serves};

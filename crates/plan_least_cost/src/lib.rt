@@ -1,4 +1,6 @@
 // What the cheapest valid plan costs: the planner's contract for the judge.
+#![tactic(auto)]
+
 ghost use Rattle.feeding.specs.Networks.{net_of};
 ghost use Rattle.feeding_start.specs.Starting.{Begun};
 ghost use Rattle.plan_least_cost.specs.LeastCost.{CheapestIn, CheapestFor};

@@ -1,4 +1,6 @@
 // What is made ready before sets of switches are tried: the links that a set can leave closed, as chained ends, and the loads with spurs lumped.
+#![tactic(auto)]
+
 ghost use Rattle.std.specs.Prelude.{◌≡◌, length};
 ghost use Rattle.network.specs.Accepted.{WellFormed};
 ghost use Rattle.feeding_ends.specs.Ends.{TwoEnds};

@@ -1,4 +1,6 @@
 // The outcomes for a network file: the plan with its cost and loads, that there is none, or a refusal.
+#![tactic(auto)]
+
 ghost use Rattle.std.specs.Prelude.{◌≡◌};
 ghost use Rattle.feeding.specs.Networks.{net_of};
 ghost use Rattle.feeding_start.specs.Starting.{Begun};

@@ -1,4 +1,5 @@
 // Which set of switches is operated: document 01's pick, its promise, and what a search over all sets computes; no function.
+#![tactic(auto)]
 
 // The cheapest set found: its cost, and the set as a number in which the first operable switch has the highest bit.
 #[derive(Drop)]

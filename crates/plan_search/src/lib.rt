@@ -1,6 +1,8 @@
 // The cheapest set of switches, by a search that carries the parts, what they ask, the states and the best set so far along, and walks the loads where a set
 // is whole. In its functions `fix` is the packed setting, `ends` and `rate` are the walk's arrays, `on` has the states of the links, `up` the parents of the
 // parts, `has` what each part holds, `spare` its number, and `fed` says how many parts no longer wait.
+#![tactic(auto)]
+
 ghost use Rattle.std.specs.Prelude.{◌≡◌, ◌+◌, ◌/◌, ◌%◌, ◌<◌, ◌≤◌, min, max, length};
 ghost use Rattle.feeding.specs.Networks.{at};
 ghost use Rattle.feeding_walks.specs.Packing.{PackedLent};

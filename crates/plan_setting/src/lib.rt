@@ -1,4 +1,6 @@
 // What a search does not change, in one array, so that it passes few pointers on; made once per network.
+#![tactic(auto)]
+
 ghost use Rattle.std.specs.Prelude.{◌≡◌, ◌≤◌, eqb};
 ghost use Rattle.feeding.specs.Networks.{at};
 ghost use Rattle.plan_problem.specs.Sets.{mask_of};

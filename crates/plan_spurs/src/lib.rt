@@ -1,4 +1,6 @@
 // Spurs: elements that hang by one link whatever the set of switches, so that the loads they add are the same in every configuration tried.
+#![tactic(auto)]
+
 ghost use Rattle.std.specs.Prelude.{◌≡◌, ◌<◌, ◌≤◌};
 ghost use Rattle.plan_spurs.specs.Spurs.{FarIn, hangs_by, bears_both, lumped_to};
 

@@ -1,4 +1,6 @@
 // The three sums of the LOAD line: loads of live elements, of restorable elements that are dark, and of elements that are not restorable.
+#![tactic(auto)]
+
 ghost use Rattle.std.specs.Prelude.{◌≡◌, length};
 ghost use Rattle.feeding.specs.Networks.{net_of, at, is_in};
 ghost use Rattle.feeding.specs.Parts.{closed_in};

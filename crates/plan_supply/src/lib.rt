@@ -1,4 +1,6 @@
 // What the elements of each part ask together, and what the part's source bears beyond that; two parts joined by these numbers.
+#![tactic(auto)]
+
 ghost use Rattle.std.specs.Prelude.{◌≡◌, true, not, ◌+◌, ◌<◌};
 ghost use Rattle.plan_stops.specs.Searching.{bears, carried_on};
 ghost use Rattle.plan_supply.specs.Supply.{Rated, Sourced, Asking, ask_of, asks_in, spare_in, demand_in};

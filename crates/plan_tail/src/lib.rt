@@ -1,4 +1,6 @@
 // What is said behind a plan's steps, of its last configuration: the loads, and the tightest spot.
+#![tactic(auto)]
+
 ghost use Rattle.std.specs.Prelude.{◌≡◌, length};
 ghost use Rattle.feeding.specs.Networks.{net_of};
 ghost use Rattle.feeding.specs.Parts.{closed_in};

@@ -1,4 +1,6 @@
 // The planner: from the bytes of a network file to the reply, to its plan file, and to its printed lines.
+#![tactic(auto)]
+
 ghost use Rattle.std.specs.Prelude.{◌≡◌, length, take};
 ghost use Rattle.texts.specs.Texts.{in_front, Counted};
 ghost use Rattle.plan_outcome.specs.Outcomes.{outcome};

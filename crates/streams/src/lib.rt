@@ -1,4 +1,6 @@
 // Standard input read to its end and a reply written, with each failure told on standard error.
+#![tactic(auto)]
+
 ghost use Rattle.std.specs.Prelude.{◌+◌, ◌<◌, ◌^◌, ◌≡◌, length, take};
 ghost use Rattle.file_network.specs.Deciding.{decides};
 ghost use Rattle.streams.specs.Streams.{input_after, Held, Grown, Ended};

@@ -1,4 +1,6 @@
 // What other programs link: planner, judge and the judge of finals, on byte slices and numbers.
+#![tactic(auto)]
+
 ghost use Rattle.std.specs.Prelude.{◌≡◌, length};
 ghost use Rattle.plan_outcome.specs.Outcomes.{outcome};
 ghost use Rattle.planner.specs.Replies.{PlannerReply, LibraryReply, reply_for, buffer_for, lines_of};

@@ -1,5 +1,7 @@
 // Runs readers, writer, planner, judge and the judge of finals on the cases of standard input and prints what each gets. Standard input says how a case is written,
 // and the expected output was derived by hand from documents 01 and 02.
+#![tactic(auto)]
+
 use file_plan::plan::Plan;
 use file_writer::Written;
 use libc::STDIN_FILENO;

@@ -2,6 +2,8 @@
 // byte for how many plan parts follow, and these; each part stands behind its length, two bytes, low byte first. The
 // planner gets the network part, the judge the network part with one of the plan parts behind it. The exhaustive
 // enumeration in bench/ wrote the corpus and the expected output, so that the gate holds planner and judge to it.
+#![tactic(auto)]
+
 use test_parts::{MOST_ITEMS, NO_PART, next_count, next_part};
 use test_replies::{print_mark, print_plan};
 

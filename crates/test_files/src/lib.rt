@@ -1,6 +1,7 @@
 // Network and plan files as texts, for the program that tries small ones: a record is its letter with its numbers behind it, parted by commas,
 // and a number by itself is two bytes. The letters are H for a network head, E for an element, V for one of kind 7, L for a link, G for a switch of
 // kind 8, a dot for the end, P for a plan head and S for a step. Behind that `|121` cuts the file to 121 bytes, and `@4=65` makes its byte 4 a 65.
+#![tactic(auto)]
 
 // A text that is being read: the file's length, the sign in front of the number that is being read, that number, and the byte to be changed.
 #[derive(Drop)]

@@ -7,6 +7,8 @@
 // the first file, 1 for the second, 2 for neither; `offset` counts from the front of the one input, or, lent apart, from the
 // front of the better file, or of the first if neither is better. The exhaustive enumeration in bench/ wrote the corpus and
 // the expected output (bench/src/finals/corpus.rs says what occurs in it), so that the gate holds the judge of finals to it.
+#![tactic(auto)]
+
 use test_parts::{MOST_ITEMS, NO_PART, next_count, next_part};
 use test_replies::{print_apart, print_final};
 

@@ -1,4 +1,6 @@
 // The parts of a stored corpus on standard input: each stands behind its length, two bytes, low byte first.
+#![tactic(auto)]
+
 ghost use Rattle.std.specs.Prelude.{◌≡◌, take};
 
 use file_fields::word_at;

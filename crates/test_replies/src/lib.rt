@@ -1,4 +1,6 @@
 // What planner, judge and the judge of finals print, for the programs that hold them to expected output.
+#![tactic(auto)]
+
 use final_better::Part;
 use final_judge::Decided;
 use host_values::better_number;

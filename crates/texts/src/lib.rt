@@ -1,4 +1,6 @@
 // What all printed lines share: texts, numbers, fields and line feeds, and the line of a refusal, into a lent array.
+#![tactic(auto)]
+
 ghost use Rattle.std.specs.Prelude.{◌≡◌, ◌+◌, ◌≤◌, [], ◌∷◌, nat_abs, length};
 ghost use Rattle.std.proofs.lemmas.List.Edits.{sets};
 ghost use Rattle.texts.specs.Texts.{decimal, field, signed_field, line_of, refused_line, in_front};

@@ -1,4 +1,6 @@
 // Marks the two plan files directly behind the network file on standard input, and prints both marks.
+#![tactic(auto)]
+
 use streams::Input;
 
 fn main() {
