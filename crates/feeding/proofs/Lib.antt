@@ -28,3 +28,4 @@ pub mod Trees
 pub mod Validity
 pub mod Views
 pub mod Walk
+pub mod Pairs
