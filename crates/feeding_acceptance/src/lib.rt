@@ -21,7 +21,7 @@ use network::Network;
 use network::refusal::{Answer, Refusal, Rule};
 
 // What an input is admitted as: the start of its network, or a refusal with the start of the empty network.
-#[derive(Drop)]
+#[derive(Clone, Copy)]
 pub struct Admitted {
     pub answer: Answer,
     pub start: Start,

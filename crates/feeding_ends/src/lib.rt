@@ -7,7 +7,7 @@ ghost use Rattle.feeding_ends.specs.Ends.{TwoEnds, own_ends};
 
 // The ends of the links: end 2l is the first end of link l and end 2l + 1 its second. head[e] is the lowest chained end at element e,
 // next[j] the lowest chained end above j at the same element, 192 where there is none, and far[j] the element at the other end of j's link.
-#[derive(Drop)]
+#[derive(Clone, Copy)]
 pub struct OwnEnds {
     pub head: [u8; 64],
     pub next: [u8; 192],

@@ -9,7 +9,7 @@ ghost use Rattle.feeding_loads.specs.Walks.{Lent, walk_grid, near_at, lower_over
 use feeding_load_test::margin_of;
 
 // A load, and the lowest element above its capacity that was met on the way, or the number of elements.
-#[derive(Drop)]
+#[derive(Clone, Copy)]
 pub struct Carried {
     pub load: u64,
     pub over: usize,

@@ -20,7 +20,7 @@ use network::Network;
 const UNFED: u64 = 18446744073709551615;
 
 // The live element with the least margin, the lowest such, with that margin; or that none is live.
-#[derive(Drop)]
+#[derive(Clone, Copy)]
 pub enum Spot {
     Nowhere,
     At(usize, i64),

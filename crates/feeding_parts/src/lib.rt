@@ -5,7 +5,7 @@ ghost use Rattle.std.specs.Prelude.{◌≡◌, ◌<◌, ◌≤◌, length};
 ghost use Rattle.feeding_parts.specs.Labelling.{Falls, AllBelow, EndsBelow, root_of, roots_of, parts_of, last_of_part};
 
 // label[e]: the lowest element of the part of e; looped[x] is 1 where a closed link with first end x closes a loop.
-#[derive(Drop)]
+#[derive(Clone, Copy)]
 pub struct Parts {
     pub label: [u8; 64],
     pub looped: [u8; 64],

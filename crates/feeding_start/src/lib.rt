@@ -17,7 +17,7 @@ use network::Network;
 
 // Sets of elements or links, 1 for a member: the links closed at the start; the sound sources, the faulty elements, those live at the start and the
 // restorable ones; the operable switches. `own` has the ends of all links.
-#[derive(Drop)]
+#[derive(Clone, Copy)]
 pub struct Start {
     pub net: Network,
     pub own: OwnEnds,

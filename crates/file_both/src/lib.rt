@@ -11,7 +11,7 @@ use file_plan::read_plan;
 use network::Network;
 use network::refusal::{Answer, Refusal};
 
-#[derive(Drop)]
+#[derive(Clone, Copy)]
 pub struct BothRead {
     pub answer: Answer,
     pub net: Network,

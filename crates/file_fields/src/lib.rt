@@ -11,7 +11,7 @@ use network::Network;
 use network::refusal::{Rule, Verdict};
 
 // What a record's rules may ask of what was read before it: how many elements and links the network has so far, and the links' forms.
-#[derive(Drop)]
+#[derive(Clone, Copy)]
 pub struct Seen {
     pub elements: usize,
     pub links: usize,

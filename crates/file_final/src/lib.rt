@@ -14,7 +14,7 @@ use network::Network;
 use network::refusal::{Answer, Refusal};
 
 // What was read, with the offsets of the first plan file, of the second and of the end, all three files counted through.
-#[derive(Drop)]
+#[derive(Clone, Copy)]
 pub struct FinalRead {
     pub answer: Answer,
     pub net: Network,

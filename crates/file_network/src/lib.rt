@@ -10,7 +10,7 @@ use crate::reader::{Reached, network_file};
 use network::Network;
 use network::refusal::{Answer, Refusal, Rule};
 
-#[derive(Drop)]
+#[derive(Clone, Copy)]
 pub struct NetworkRead {
     pub answer: Answer,
     pub net: Network,

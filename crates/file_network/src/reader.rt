@@ -16,14 +16,14 @@ use network::refusal::Refusal;
 use network::{Element, Link, Network};
 
 // How far reading came: the offset and the stage of the record that is due next, or the refusal.
-#[derive(Drop)]
+#[derive(Clone, Copy)]
 pub enum Reached {
     At(usize, Stage),
     Refused(Refusal),
 }
 
 // What has been read; the empty network where it was refused.
-#[derive(Drop)]
+#[derive(Clone, Copy)]
 pub struct NetworkPart {
     pub reached: Reached,
     pub net: Network,

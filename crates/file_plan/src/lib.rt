@@ -12,7 +12,7 @@ use crate::reader::plan_file;
 use file_network::ended;
 use network::refusal::Answer;
 
-#[derive(Drop)]
+#[derive(Clone, Copy)]
 pub struct PlanRead {
     pub answer: Answer,
     pub plan: Plan,

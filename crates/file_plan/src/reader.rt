@@ -15,7 +15,7 @@ use file_stages::{Stage, after_last};
 use network::refusal::Refusal;
 
 // What has been read; the empty plan where it was refused.
-#[derive(Drop)]
+#[derive(Clone, Copy)]
 pub struct PlanPart {
     pub reached: Reached,
     pub plan: Plan,

@@ -10,14 +10,14 @@ use file_records::{Found, bytes_left, due_at};
 use file_stages::Stage;
 
 // Lent bytes, and the offset at which the next record is due.
-#[derive(Drop)]
+#[derive(Clone, Copy)]
 pub struct Reader<'a> {
     pub src: &'a [u8],
     pub at: usize,
 }
 
 // What was found, and the offset at which the next record is due.
-#[derive(Drop)]
+#[derive(Clone, Copy)]
 struct Moved {
     found: Found,
     at: usize,

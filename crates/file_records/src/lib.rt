@@ -11,7 +11,7 @@ use file_stages::{Next, Stage, next_stage};
 use network::refusal::{Refusal, Rule, Verdict};
 
 // A record, with the stage that the table names after it; or the first rule that it breaks.
-#[derive(Drop)]
+#[derive(Clone, Copy)]
 pub enum Found {
     Record { kind: u16, length: u16, next: Stage },
     Refused(Refusal),

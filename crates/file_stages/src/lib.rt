@@ -4,7 +4,7 @@
 ghost use Rattle.std.specs.Prelude.{◌≡◌};
 ghost use Rattle.file_stages.specs.Stages.{named_by, next_stage, after_last, stage_number};
 
-#[derive(Drop)]
+#[derive(Clone, Copy)]
 pub enum Stage {
     Head,
     Elements,
@@ -16,7 +16,7 @@ pub enum Stage {
     Over,
 }
 
-#[derive(Drop)]
+#[derive(Clone, Copy)]
 pub enum Next {
     Go(Stage),
     Refused,

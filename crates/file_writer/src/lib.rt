@@ -8,7 +8,7 @@ ghost use Rattle.file_writer.specs.Writing.{number, plan_head_bytes, step_bytes,
 use file_plan::plan::Plan;
 use network::refusal::{Refusal, Rule};
 
-#[derive(Drop)]
+#[derive(Clone, Copy)]
 pub enum Written {
     Bytes(usize),
     Refused(Refusal),

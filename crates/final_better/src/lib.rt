@@ -7,7 +7,7 @@ ghost use Rattle.final_better.specs.Better.{better_of, second_or_neither, step_r
 use judge_marks::Mark;
 
 // Which of two files is the better one.
-#[derive(Drop)]
+#[derive(Clone, Copy)]
 pub enum Better {
     First,
     Second,
@@ -15,7 +15,7 @@ pub enum Better {
 }
 
 // The better file, and where its step records stand; where neither is valid, the empty part at the first file's first step.
-#[derive(Drop)]
+#[derive(Clone, Copy)]
 pub struct Part {
     pub better: Better,
     pub offset: usize,

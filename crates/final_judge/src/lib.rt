@@ -16,7 +16,7 @@ use judge_score::both_marked;
 use network::refusal::{Answer, Refusal};
 
 // Accepted, with both marks in file order and the part of the better file; or a refusal.
-#[derive(Drop)]
+#[derive(Clone, Copy)]
 pub struct Decided {
     pub answer: Answer,
     pub marks: BothMarks,

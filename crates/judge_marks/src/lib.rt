@@ -4,7 +4,7 @@
 use network::refusal::Refusal;
 
 // Why a step is bad.
-#[derive(Drop)]
+#[derive(Clone, Copy)]
 pub enum Reason {
     NotOperable,
     AlreadySo,
@@ -12,21 +12,21 @@ pub enum Reason {
 }
 
 // A bad step: its number, from 1 on, and the lowest reason that fits.
-#[derive(Drop)]
+#[derive(Clone, Copy)]
 pub struct BadStep {
     pub step: usize,
     pub reason: Reason,
 }
 
 // What the steps of a plan are found to be: the first bad one decides.
-#[derive(Drop)]
+#[derive(Clone, Copy)]
 pub enum Examined {
     AllGood,
     Bad(BadStep),
 }
 
 // How a plan stands before the cheapest cost is known: what it costs, where its steps are good and leave nothing dark.
-#[derive(Drop)]
+#[derive(Clone, Copy)]
 pub enum Standing {
     Broken(BadStep),
     Short(usize),
@@ -34,13 +34,13 @@ pub enum Standing {
 }
 
 // What a valid plan costs, and how much of it is above the cheapest cost.
-#[derive(Drop)]
+#[derive(Clone, Copy)]
 pub struct Score {
     pub cost: u64,
     pub excess: u64,
 }
 
-#[derive(Drop)]
+#[derive(Clone, Copy)]
 pub enum Mark {
     Broken(BadStep),
     Short(usize),
@@ -49,7 +49,7 @@ pub enum Mark {
 }
 
 // The marks of two plans in one network, in file order.
-#[derive(Drop)]
+#[derive(Clone, Copy)]
 pub struct BothMarks {
     pub first: Mark,
     pub second: Mark,

@@ -2,7 +2,7 @@
 #![tactic(auto)]
 
 // What two parts are found to be that a closing would join.
-#[derive(Drop)]
+#[derive(Clone, Copy)]
 pub enum Joining {
     // they must not be joined: they are one part, both have a sound source, or one has a sound source and the other a faulty element
     Clash,

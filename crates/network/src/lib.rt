@@ -8,7 +8,7 @@ ghost use Rattle.network.specs.Networks.{empty_network};
 
 // A network as its file states it: element i and link l of the file stand at index i and l, and later entries are 0. In
 // guard 96 says that there is none: of a link without a guard, and in later entries.
-#[derive(Drop)]
+#[derive(Clone, Copy)]
 pub struct Network {
     pub load: [u32; 64],
     pub capacity: [u32; 64],
@@ -23,7 +23,7 @@ pub struct Network {
 }
 
 // An element: own load, capacity, flags (1 source, 2 faulty, 3 both).
-#[derive(Drop)]
+#[derive(Clone, Copy)]
 pub struct Element {
     pub load: u32,
     pub capacity: u32,
@@ -31,7 +31,7 @@ pub struct Element {
 }
 
 // A link: two elements, form (0 fixed, 1 open switch, 2 closed switch), cost, guard (96 for none).
-#[derive(Drop)]
+#[derive(Clone, Copy)]
 pub struct Link {
     pub from: u16,
     pub to: u16,

@@ -3,7 +3,7 @@ ghost use Rattle.std.specs.Prelude.{◌≡◌};
 ghost use Rattle.network.specs.Refusals.{rule_number};
 
 // The rules by their numbers: document 01's, 1 to 19, then document 02's.
-#[derive(Drop)]
+#[derive(Clone, Copy)]
 pub enum Rule {
     RecordMissing,
     KindOutOfPlace,
@@ -28,21 +28,21 @@ pub enum Rule {
 }
 
 // What document 01 prints as `REFUSED number place`.
-#[derive(Drop)]
+#[derive(Clone, Copy)]
 pub struct Refusal {
     pub rule: Rule,
     pub place: usize,
 }
 
 // What an input gets of some rules: it is accepted, or refused by the first that it breaks.
-#[derive(Drop)]
+#[derive(Clone, Copy)]
 pub enum Answer {
     Accepted,
     Refused(Refusal),
 }
 
 // What a check of some rules says: none is broken, or the first that is.
-#[derive(Drop)]
+#[derive(Clone, Copy)]
 pub enum Verdict {
     Kept,
     Broken(Rule),

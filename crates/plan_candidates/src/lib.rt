@@ -22,7 +22,7 @@ use plan_supply::{demand_of, spare_of};
 use plan_switches::Switches;
 
 // What the search starts from: the label of each element's part, at each label what its part holds and its number, and how many parts wait for a source.
-#[derive(Drop)]
+#[derive(Clone, Copy)]
 struct Origin {
     label: [u8; 64],
     holds: [u8; 64],

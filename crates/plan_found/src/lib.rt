@@ -19,7 +19,7 @@ use plan_problem::Best;
 use plan_switches::{Switches, switches_of, with_set};
 
 // Its cost, its steps, and the states that it leaves, 1 for a closed link; without a plan NO_PLAN, no step, and the states at the start.
-#[derive(Drop)]
+#[derive(Clone, Copy)]
 pub struct Found {
     pub cost: u64,
     pub plan: Plan,

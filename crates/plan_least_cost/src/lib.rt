@@ -12,7 +12,7 @@ use plan_cheapest::cheapest_set;
 use plan_problem::Best;
 use plan_switches::switches_of;
 
-#[derive(Drop)]
+#[derive(Clone, Copy)]
 pub enum Cheapest {
     Cost(u64),
     NoPlan,

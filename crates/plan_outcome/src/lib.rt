@@ -13,7 +13,7 @@ use plan_found::Found;
 use plan_sums::{Sums, sums_after};
 
 // A plan that was found: its number of steps, its cost, and the loads after it.
-#[derive(Drop)]
+#[derive(Clone, Copy)]
 pub struct Planned {
     pub steps: usize,
     pub cost: u64,
@@ -21,7 +21,7 @@ pub struct Planned {
 }
 
 // The reply to a network file. Loads are those after the plan, or at the start where there is none.
-#[derive(Drop)]
+#[derive(Clone, Copy)]
 pub enum Reply {
     Plan(Planned),
     NoPlan(Sums),
@@ -29,7 +29,7 @@ pub enum Reply {
 }
 
 // A reply with its plan; the empty plan where there is none.
-#[derive(Drop)]
+#[derive(Clone, Copy)]
 pub struct Outcome {
     pub reply: Reply,
     pub plan: Plan,

@@ -2,7 +2,7 @@
 #![tactic(auto)]
 
 // The cheapest set found: its cost, and the set as a number in which the first operable switch has the highest bit.
-#[derive(Drop)]
+#[derive(Clone, Copy)]
 pub struct Best {
     pub cost: u64,
     pub set: u32,

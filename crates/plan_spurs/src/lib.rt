@@ -8,7 +8,7 @@ use feeding_ends::OwnEnds;
 use feeding_load_test::margin_of;
 
 // The links that are closed whatever the set, and the elements' own loads, with the spurs found so far lumped with what they hang from.
-#[derive(Drop)]
+#[derive(Clone, Copy)]
 pub struct Lumped {
     pub base: [u8; 96],
     pub load: [u32; 64],

@@ -10,7 +10,7 @@ ghost use Rattle.plan_sums.specs.Sums.{LoadsReach, sums_over, sums_after};
 use feeding_restoration::joined_to;
 use feeding_start::Start;
 
-#[derive(Drop)]
+#[derive(Clone, Copy)]
 pub struct Sums {
     pub fed: u64,
     pub dark: u64,

@@ -10,7 +10,7 @@ ghost use Rattle.plan_switches.specs.Switches.{SwitchReach, switch_list, with_se
 use network::Network;
 
 // Switch i of the list: its link number, its two ends, 1 in `closed` where it is closed at the start, its cost. Entries from `count` on are 0.
-#[derive(Drop)]
+#[derive(Clone, Copy)]
 pub struct Switches {
     pub link: [u8; 16],
     pub from: [u8; 16],

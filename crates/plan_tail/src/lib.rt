@@ -12,7 +12,7 @@ use feeding_margins::{Spot, tightest_spot};
 use feeding_start::Start;
 use plan_sums::{Sums, sums_after};
 
-#[derive(Drop)]
+#[derive(Clone, Copy)]
 pub struct Tail {
     pub sums: Sums,
     pub spot: Spot,

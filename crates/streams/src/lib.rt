@@ -11,7 +11,7 @@ use libc::{STDERR_FILENO, STDIN_FILENO, STDOUT_FILENO};
 pub const DECIDING_BYTES: usize = 8192;
 
 // How far an input was read: so many bytes stand in front of the buffer and more may come, or they are all, or a read failed.
-#[derive(Drop)]
+#[derive(Clone, Copy)]
 pub enum Input {
     More(usize),
     Whole(usize),

@@ -14,7 +14,7 @@ use test_files::{number, put, put_times};
 use test_replies::{field, print_apart, print_final, print_mark, print_plan, text};
 
 // What runs on a case's bytes. Into has the length of the plan buffer, PlanFrom the plan file's place, and Write the length of the buffer.
-#[derive(Drop)]
+#[derive(Clone, Copy)]
 enum Run {
     Planner,
     Judge,

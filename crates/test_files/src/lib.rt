@@ -4,7 +4,7 @@
 #![tactic(auto)]
 
 // A text that is being read: the file's length, the sign in front of the number that is being read, that number, and the byte to be changed.
-#[derive(Drop)]
+#[derive(Clone, Copy)]
 struct Reading {
     length: usize,
     sign: u8,

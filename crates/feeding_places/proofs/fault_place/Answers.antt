@@ -7,6 +7,7 @@ use Rattle.feeding.proofs.Lows.{lowest_start, lowest_stop, lowest_step, lowest_e
 use Rattle.feeding_places.specs.Places.{with_last}
 use Rattle.feeding_places.proofs.Tests.{with_last_on, with_last_off, with_last_none}
 use Rattle.feeding_places.proofs.fault_place.Goals as goal
+use Rattle.feeding_places.proofs.fault_place.Goals.{else-faulty-x-eq1, then-faulty-x-eq1+else-last-k-lt64}
 
 pub loop-x-init : goal.loop-x-init
 loop-x-init c =
@@ -45,10 +46,7 @@ loop-x-preserved c =
     let the-args = c.args in
     let loop· = c.loop-x in (
       omega arith,
-      sym (lowest_step the-args.elements loop·.x (with_last the-args.label.now the-args.faulty.now the-args.last.now) (omega arith) (⊎_elim
-          (λ w. with_last_none the-args.label.now the-args.faulty.now the-args.last.now loop·.x w.3.left)
-          (λ w. with_last_off the-args.label.now the-args.faulty.now the-args.last.now loop·.x w.left)
-          c.if-faulty-x-eq1.branch))
+      sym (lowest_step the-args.elements loop·.x (with_last the-args.label.now the-args.faulty.now the-args.last.now) (omega arith) ((elim c.if-faulty-x-eq1.branch [ then-faulty-x-eq1+else-last-k-lt64 w ↦ with_last_none the-args.label.now the-args.faulty.now the-args.last.now loop·.x w.3.left | else-faulty-x-eq1 w ↦ with_last_off the-args.label.now the-args.faulty.now the-args.last.now loop·.x w.left ])))
           ∙ loop·.invariant.1,
     )
 

@@ -8,6 +8,7 @@ use Rattle.feeding.proofs.Lows.{lowest_start, lowest_stop, lowest_step, lowest_e
 use Rattle.feeding_places.specs.Places.{not_last}
 use Rattle.feeding_places.proofs.Tests.{not_last_on, not_last_off, not_last_same}
 use Rattle.feeding_places.proofs.pair_place.Goals as goal
+use Rattle.feeding_places.proofs.pair_place.Goals.{else-sound-s-eq1, then-sound-s-eq1+else-last-k}
 
 pub loop-s-init : goal.loop-s-init
 loop-s-init c =
@@ -52,10 +53,7 @@ loop-s-preserved c =
     let the-args = c.args in
     let loop· = c.loop-s in (
       omega arith,
-      sym (lowest_step the-args.elements loop·.s (not_last the-args.label.now the-args.sound.now the-args.last.now) (omega arith) (⊎_elim
-          (λ w. not_last_same the-args.label.now the-args.sound.now the-args.last.now loop·.s w.3.left)
-          (λ w. not_last_off the-args.label.now the-args.sound.now the-args.last.now loop·.s w.left)
-          c.if-sound-s-eq1.branch))
+      sym (lowest_step the-args.elements loop·.s (not_last the-args.label.now the-args.sound.now the-args.last.now) (omega arith) ((elim c.if-sound-s-eq1.branch [ then-sound-s-eq1+else-last-k w ↦ not_last_same the-args.label.now the-args.sound.now the-args.last.now loop·.s w.3.left | else-sound-s-eq1 w ↦ not_last_off the-args.label.now the-args.sound.now the-args.last.now loop·.s w.left ])))
           ∙ loop·.invariant.1,
     )
 

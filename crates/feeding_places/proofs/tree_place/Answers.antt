@@ -5,6 +5,7 @@ use Prim.Native.Nat.{◌-◌}
 use native.Mathlib.Omega.{arith}
 use Rattle.feeding_places.proofs.Tests.{least_below, least_none, least_all, least_lower, least_kept, least_off}
 use Rattle.feeding_places.proofs.tree_place.Goals as goal
+use Rattle.feeding_places.proofs.tree_place.Goals.{else-looped-x-eq1, then-looped-x-eq1+else-k-place, then-looped-x-eq1+then-k-place}
 
 pub loop-x-init : goal.loop-x-init
 loop-x-init c =
@@ -29,12 +30,7 @@ loop-x-preserved c =
     let loop· = c.loop-x in
     let the-args = c.args in (
       omega arith,
-      ⊎_elim
-          (λ w. omega (arith, w.3, loop·.invariant.1, w.0.taken, w.2.taken, least_lower the-args.label.now the-args.looped.now the-args.elements loop·.x w.0.taken (omega (arith, w.2.taken, loop·.invariant.1))))
-          (⊎_elim
-          (λ w. omega (arith, w.3, loop·.invariant.1, least_kept the-args.label.now the-args.looped.now the-args.elements loop·.x w.0.taken (omega (arith, w.2.left, loop·.invariant.1))))
-          (λ w. omega (arith, w.1, loop·.invariant.1, least_off the-args.label.now the-args.looped.now the-args.elements loop·.x w.0.left)))
-          c.if-looped-x-eq1.branch,
+      (elim c.if-looped-x-eq1.branch [ then-looped-x-eq1+then-k-place w ↦ omega (arith, w.place-is, loop·.invariant.1, w.0.taken, w.2.taken, least_lower the-args.label.now the-args.looped.now the-args.elements loop·.x w.0.taken (omega (arith, w.2.taken, loop·.invariant.1))) | then-looped-x-eq1+else-k-place w ↦ omega (arith, w.place-is, loop·.invariant.1, least_kept the-args.label.now the-args.looped.now the-args.elements loop·.x w.0.taken (omega (arith, w.2.left, loop·.invariant.1))) | else-looped-x-eq1 w ↦ omega (arith, w.place-is, loop·.invariant.1, least_off the-args.label.now the-args.looped.now the-args.elements loop·.x w.0.left) ]),
     )
 
 pub returns : goal.returns
