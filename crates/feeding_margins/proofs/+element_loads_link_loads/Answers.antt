@@ -11,6 +11,7 @@ use Rattle.feeding_margins.proofs.Rounds.{none_load, none_stored, link_none_load
 use Prim.Native.Nat.{ℕ, ◌<◌}
 use Rattle.network.proofs.Pairs.{both}
 use Rattle.feeding_margins.proofs.+element_loads_link_loads.Goals as goal
+use Rattle.feeding_margins.proofs.+element_loads_link_loads.Goals.{element_loads-else-closed-l-eq1, element_loads-then-closed-l-eq1+else-l-via, element_loads-then-closed-l-eq1+then-l-via}
 
 pub element_loads-overflow_cast-sum : goal.element_loads-overflow_cast-sum
 element_loads-overflow_cast-sum t c =
@@ -81,13 +82,7 @@ element_loads-loop-j-preserved t c =
     let the-args = c.args in
     let pre· = (both c.requires.lent (both c.requires.e_lt_elements c.requires.via_bound)) in
     let loop· = c.loop-j in
-    ⊎_elim
-    (λ w. store_on the-args.head.now the-args.next.now the-args.far.now the-args.closed.now the-args.load.now the-args.elements the-args.links pre·.1.0 (the-args.depth - 1) the-args.e the-args.via the-args.loads.now loop·.sum loop·.loads loop·.j loop·.invariant (omega arith) w.3.result c.if-closed-l-eq1.sum c.if-closed-l-eq1.loads (omega arith) (omega arith) w.3.ensures.0 (omega (arith, w.5)) (w.4 ∙ w.3.ensures.1))
-    (λ v. ⊎_elim
-    (λ w. store_via the-args.head.now the-args.next.now the-args.far.now the-args.closed.now the-args.load.now the-args.elements the-args.links pre·.1.0 (the-args.depth - 1) the-args.e the-args.via the-args.loads.now loop·.sum loop·.loads loop·.j loop·.invariant (omega arith) c.if-closed-l-eq1.sum c.if-closed-l-eq1.loads (omega arith) (omega (arith, w.3)) w.2)
-    (λ w. store_open the-args.head.now the-args.next.now the-args.far.now the-args.closed.now the-args.load.now the-args.elements the-args.links pre·.1.0 (the-args.depth - 1) the-args.e the-args.via the-args.loads.now loop·.sum loop·.loads loop·.j loop·.invariant (omega arith) c.if-closed-l-eq1.sum c.if-closed-l-eq1.loads (omega arith) (omega (arith, w.2)) w.1)
-    v)
-    c.if-closed-l-eq1.branch
+    (elim c.if-closed-l-eq1.branch [ element_loads-then-closed-l-eq1+then-l-via w ↦ store_on the-args.head.now the-args.next.now the-args.far.now the-args.closed.now the-args.load.now the-args.elements the-args.links pre·.1.0 (the-args.depth - 1) the-args.e the-args.via the-args.loads.now loop·.sum loop·.loads loop·.j loop·.invariant (omega arith) w.link_loads-sum.result c.if-closed-l-eq1.sum c.if-closed-l-eq1.loads (omega arith) (omega arith) w.link_loads-sum.ensures.0 (omega (arith, w.sum-is)) (w.loads-is ∙ w.link_loads-sum.ensures.1) | element_loads-then-closed-l-eq1+else-l-via w ↦ store_via the-args.head.now the-args.next.now the-args.far.now the-args.closed.now the-args.load.now the-args.elements the-args.links pre·.1.0 (the-args.depth - 1) the-args.e the-args.via the-args.loads.now loop·.sum loop·.loads loop·.j loop·.invariant (omega arith) c.if-closed-l-eq1.sum c.if-closed-l-eq1.loads (omega arith) (omega (arith, w.sum-is)) w.loads-is | element_loads-else-closed-l-eq1 w ↦ store_open the-args.head.now the-args.next.now the-args.far.now the-args.closed.now the-args.load.now the-args.elements the-args.links pre·.1.0 (the-args.depth - 1) the-args.e the-args.via the-args.loads.now loop·.sum loop·.loads loop·.j loop·.invariant (omega arith) c.if-closed-l-eq1.sum c.if-closed-l-eq1.loads (omega arith) (omega (arith, w.sum-is)) w.loads-is ])
 
 pub element_loads-returns : goal.element_loads-returns
 element_loads-returns t c =

@@ -6,6 +6,7 @@ use native.Mathlib.Omega.{arith}
 use Rattle.feeding.specs.Networks.{at}
 use Rattle.feeding_margins.proofs.Scans.{spot_none, spot_on, spot_off, spot_all}
 use Rattle.feeding_margins.proofs.least_margin.Goals as goal
+use Rattle.feeding_margins.proofs.least_margin.Goals.{else-x, then-x}
 
 pub loop-e-init : goal.loop-e-init
 loop-e-init c =
@@ -31,12 +32,12 @@ loop-e-preserved c =
     let p = c.requires in
     let n = c.loop-e in (
       omega arith,
-      ⊎_elim
-          (λ w. spot_on a.capacity.now a.loads.now n.e n.spot c.if-x.spot w.2.result (omega (arith, w.0.taken))
-          (omega (arith, w.1.given n.e)) (p.loads_in n.e (omega arith) (omega (arith, w.0.taken)))
-          n.invariant.1 w.2.ensures (w.4 ∙ w.3.ensures))
-          (λ w. spot_off a.capacity.now a.loads.now n.e c.if-x.spot (omega (arith, w.0.left)) (w.1 ∙ n.invariant.1))
-          c.if-x.branch,
+      (elim c.if-x.branch [
+        | then-x w ↦ spot_on a.capacity.now a.loads.now n.e n.spot c.if-x.spot w.margin_of.result (omega (arith, w.0.taken))
+            (omega (arith, w.1.given n.e)) (p.loads_in n.e (omega arith) (omega (arith, w.0.taken)))
+            n.invariant.1 w.margin_of.ensures (w.spot-is ∙ w.tighter-spot.ensures)
+        | else-x w ↦ spot_off a.capacity.now a.loads.now n.e c.if-x.spot (omega (arith, w.0.left)) (w.spot-is ∙ n.invariant.1)
+      ]),
     )
 
 pub returns : goal.returns

@@ -10,6 +10,7 @@ use Rattle.feeding_margins.specs.Margins.{unfed}
 use Rattle.feeding_margins.proofs.Sources.{stored_start, stored_on, stored_off, stored_all}
 use Rattle.network.proofs.Pairs.{both}
 use Rattle.feeding_margins.proofs.loads_from.Goals as goal
+use Rattle.feeding_margins.proofs.loads_from.Goals.{else-marked-s-eq1, then-marked-s-eq1}
 
 pub loop-s-init : goal.loop-s-init
 loop-s-init c =
@@ -28,10 +29,7 @@ loop-s-preserved c =
     let the-args = c.args in
     let loop· = c.loop-s in (
       omega arith,
-      ⊎_elim
-          (λ w. stored_on the-args.elements the-args.links the-args.far.now the-args.load.now (closed_in the-args.closed.now) the-args.marked.now (replicate 64 unfed) loop·.s loop·.loads c.if-marked-s-eq1.loads (omega arith) loop·.invariant.1 (w.3 ∙ w.2.ensures.1))
-          (λ w. stored_off the-args.elements the-args.links the-args.far.now the-args.load.now (closed_in the-args.closed.now) the-args.marked.now (replicate 64 unfed) loop·.s loop·.loads c.if-marked-s-eq1.loads (omega arith) loop·.invariant.1 w.1)
-          c.if-marked-s-eq1.branch,
+      (elim c.if-marked-s-eq1.branch [ then-marked-s-eq1 w ↦ stored_on the-args.elements the-args.links the-args.far.now the-args.load.now (closed_in the-args.closed.now) the-args.marked.now (replicate 64 unfed) loop·.s loop·.loads c.if-marked-s-eq1.loads (omega arith) loop·.invariant.1 (w.loads-is ∙ w.element_loads.ensures.1) | else-marked-s-eq1 w ↦ stored_off the-args.elements the-args.links the-args.far.now the-args.load.now (closed_in the-args.closed.now) the-args.marked.now (replicate 64 unfed) loop·.s loop·.loads c.if-marked-s-eq1.loads (omega arith) loop·.invariant.1 w.loads-is ]),
     )
 
 pub returns : goal.returns

@@ -46,7 +46,7 @@ loop-x-preserved c =
     let the-args = c.args in
     let loop· = c.loop-x in (
       omega arith,
-      sym (lowest_step the-args.elements loop·.x (with_last the-args.label.now the-args.faulty.now the-args.last.now) (omega arith) ((elim c.if-faulty-x-eq1.branch [ then-faulty-x-eq1+else-last-k-lt64 w ↦ with_last_none the-args.label.now the-args.faulty.now the-args.last.now loop·.x w.3.left | else-faulty-x-eq1 w ↦ with_last_off the-args.label.now the-args.faulty.now the-args.last.now loop·.x w.left ])))
+      sym (lowest_step the-args.elements loop·.x (with_last the-args.label.now the-args.faulty.now the-args.last.now) (omega arith) ((elim c.if-faulty-x-eq1.branch [ then-faulty-x-eq1+else-last-k-lt64 w ↦ with_last_none the-args.label.now the-args.faulty.now the-args.last.now loop·.x w.if-last-k-lt64.false | else-faulty-x-eq1 w ↦ with_last_off the-args.label.now the-args.faulty.now the-args.last.now loop·.x w.if-faulty-x-eq1.false ])))
           ∙ loop·.invariant.1,
     )
 

@@ -53,7 +53,7 @@ loop-s-preserved c =
     let the-args = c.args in
     let loop· = c.loop-s in (
       omega arith,
-      sym (lowest_step the-args.elements loop·.s (not_last the-args.label.now the-args.sound.now the-args.last.now) (omega arith) ((elim c.if-sound-s-eq1.branch [ then-sound-s-eq1+else-last-k w ↦ not_last_same the-args.label.now the-args.sound.now the-args.last.now loop·.s w.3.left | else-sound-s-eq1 w ↦ not_last_off the-args.label.now the-args.sound.now the-args.last.now loop·.s w.left ])))
+      sym (lowest_step the-args.elements loop·.s (not_last the-args.label.now the-args.sound.now the-args.last.now) (omega arith) ((elim c.if-sound-s-eq1.branch [ then-sound-s-eq1+else-last-k w ↦ not_last_same the-args.label.now the-args.sound.now the-args.last.now loop·.s w.if-last-k.false | else-sound-s-eq1 w ↦ not_last_off the-args.label.now the-args.sound.now the-args.last.now loop·.s w.if-sound-s-eq1.false ])))
           ∙ loop·.invariant.1,
     )
 

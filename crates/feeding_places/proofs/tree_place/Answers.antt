@@ -30,7 +30,7 @@ loop-x-preserved c =
     let loop· = c.loop-x in
     let the-args = c.args in (
       omega arith,
-      (elim c.if-looped-x-eq1.branch [ then-looped-x-eq1+then-k-place w ↦ omega (arith, w.place-is, loop·.invariant.1, w.0.taken, w.2.taken, least_lower the-args.label.now the-args.looped.now the-args.elements loop·.x w.0.taken (omega (arith, w.2.taken, loop·.invariant.1))) | then-looped-x-eq1+else-k-place w ↦ omega (arith, w.place-is, loop·.invariant.1, least_kept the-args.label.now the-args.looped.now the-args.elements loop·.x w.0.taken (omega (arith, w.2.left, loop·.invariant.1))) | else-looped-x-eq1 w ↦ omega (arith, w.place-is, loop·.invariant.1, least_off the-args.label.now the-args.looped.now the-args.elements loop·.x w.0.left) ]),
+      (elim c.if-looped-x-eq1.branch [ then-looped-x-eq1+then-k-place w ↦ omega (arith, w.place-is, loop·.invariant.1, w.if-looped-x-eq1.true, w.if-k-place.true, least_lower the-args.label.now the-args.looped.now the-args.elements loop·.x w.if-looped-x-eq1.true (omega (arith, w.if-k-place.true, loop·.invariant.1))) | then-looped-x-eq1+else-k-place w ↦ omega (arith, w.place-is, loop·.invariant.1, least_kept the-args.label.now the-args.looped.now the-args.elements loop·.x w.if-looped-x-eq1.true (omega (arith, w.if-k-place.false, loop·.invariant.1))) | else-looped-x-eq1 w ↦ omega (arith, w.place-is, loop·.invariant.1, least_off the-args.label.now the-args.looped.now the-args.elements loop·.x w.if-looped-x-eq1.false) ]),
     )
 
 pub returns : goal.returns
