@@ -49,6 +49,7 @@ module _ (s : List ℕ) (E K : ℕ) where
   break_once (later k x) (later k' y) = break_once x y
 
   pub stand_unbroken : {a : List Stage} {at end : ℕ} {f : Refusal} → Stand s E K a at end → ¬ FirstBreak s E K a at f
+  stand_unbroken {f = f} (none {at = at}) x5 = elim x5 [ ]
   stand_unbroken (next k x) (here y) = keeps_unbroken s E K _ _ _ k y
   stand_unbroken (next k x) (later k' y) = stand_unbroken x y
 

@@ -102,9 +102,9 @@ module _ (n : Network) (w : WellFormed n) (chain sign rating : List ℕ) (made :
   sign-long : length sign ≡ 64
   sign-long = ap length made.sign-is ∙ length_tabulate 64 _
 
-  sign_at : (x : ℕ) → x < n.elements → at sign x ≡ gate (sound? g x) (suc x) + gate (g.faulty x) 128
+  sign_at_lem : (x : ℕ) → x < n.elements → at sign x ≡ gate (sound? g x) (suc x) + gate (g.faulty x) 128
   unfolding net_of grid_of sound? sign_of
-  sign_at x k =
+  sign_at_lem x k =
       ap (λ (xs : List ℕ). at xs x) made.sign-is ∙ at_tabulate 64 (λ y. sign_of (at n.flags y) y) x (omega (arith, w.elements_fit))
       ∙ ap (λ (b : Bool). gate b (suc x) + gate (is_faulty (at n.flags x)) 128) (sound_flag (at n.flags x))
 
@@ -131,11 +131,11 @@ module _ (n : Network) (w : WellFormed n) (chain sign rating : List ℕ) (made :
               ap (at aimed) same,
               get_or-set_same sign m (at sign m + 16384) 0 (omega (arith, sign-long, second_lt, w.elements_fit)),
               ap (at sign) same,
-              sign_at x kx,
+              sign_at_lem x kx,
             )
         go false t =
             get_or-set_other sign (second_end chain l) x (at sign (second_end chain l) + 16384) 0 (λ q. eqb-false x (at n.to l) t (q ∙ second_end_lem l k))
-            ∙ omega (arith, sign_at x kx)
+            ∙ omega (arith, sign_at_lem x kx)
 
     -- the walk of signs over the lists is that over the grid
     signs-is : (c : Config) (e : ℕ) → e < n.elements
@@ -214,7 +214,7 @@ module _ (n : Network) (w : WellFormed n) (chain sign rating : List ℕ) (made :
         second_in = second_lt;
         sign_fits = omega (
           arith,
-          sign_at (second_end chain l) second_lt,
+          sign_at_lem (second_end chain l) second_lt,
           gate_le (sound? g (second_end chain l)) (suc (second_end chain l)),
           gate_le (g.faulty (second_end chain l)) 128,
           second_lt,

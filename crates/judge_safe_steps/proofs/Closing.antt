@@ -54,9 +54,9 @@ module _ (g : Grid) (c : Config) (l : ℕ) where
       go (inr r) = crossing_beside r
 
   -- a path from an element that is not beside the link keeps off it
-  unjoined : (via : ℕ) {e x : ℕ} → ¬ Beside g c l e → Joined g (without (put c l true) via) x e → Joined g (without c via) x e
+  unjoined : (via : ℕ) {x e : ℕ} → ¬ Beside g c l e → Joined g (without (put c l true) via) x e → Joined g (without c via) x e
   unjoined via n here = here
-  unjoined via {e} {x} n (over m km h t j) = go (λ n'. unjoined via n' j) (put_split c l m (without_on (put c l true) via m h))
+  unjoined via {x} {e} n (over m km h t j) = go (λ n'. unjoined via n' j) (put_split c l m (without_on (put c l true) via m h))
     where
       go : (¬ Beside g c l (far g m e) → Joined g (without c via) x (far g m e)) → (c m ≡ true) ⊎ (m ≡ l) → Joined g (without c via) x e
       go ih (inl on) = over m km (without_in c via m on (without_ne (put c l true) via m h)) t

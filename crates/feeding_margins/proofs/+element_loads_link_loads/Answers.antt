@@ -22,7 +22,7 @@ pub element_loads-returns-then-depth-eq0 : goal.element_loads-returns-then-depth
 element_loads-returns-then-depth-eq0 t c =
     let the-args = c.args in
     let pre· = (both c.requires.lent (both c.requires.e_lt_elements c.requires.via_bound)) in
-    record { value = none_load the-args.head.now the-args.next.now the-args.far.now the-args.closed.now the-args.load.now the-args.elements the-args.links pre·.1.0 the-args.loads.now the-args.depth the-args.e the-args.via (omega arith); loads_after = none_stored the-args.head.now the-args.next.now the-args.far.now the-args.closed.now the-args.load.now the-args.elements the-args.links pre·.1.0 the-args.loads.now the-args.depth the-args.e the-args.via (omega arith) }
+    record { value = none_load the-args.head.now the-args.next.now the-args.far.now the-args.closed.now the-args.load.now the-args.elements the-args.links pre·.0 the-args.loads.now the-args.depth the-args.e the-args.via (omega arith); loads_after = none_stored the-args.head.now the-args.next.now the-args.far.now the-args.closed.now the-args.load.now the-args.elements the-args.links pre·.0 the-args.loads.now the-args.depth the-args.e the-args.via (omega arith) }
 
 pub element_loads-overflow_cast-j : goal.element_loads-overflow_cast-j
 element_loads-overflow_cast-j t c =
@@ -33,29 +33,29 @@ pub element_loads-loop-j-init : goal.element_loads-loop-j-init
 element_loads-loop-j-init t c =
     let the-args = c.args in
     let pre· = (both c.requires.lent (both c.requires.e_lt_elements c.requires.via_bound)) in
-    store_start the-args.head.now the-args.next.now the-args.far.now the-args.closed.now the-args.load.now the-args.elements the-args.links pre·.1.0 (the-args.depth - 1) the-args.e the-args.via the-args.loads.now (omega arith)
+    store_start the-args.head.now the-args.next.now the-args.far.now the-args.closed.now the-args.load.now the-args.elements the-args.links pre·.0 (the-args.depth - 1) the-args.e the-args.via the-args.loads.now (omega arith)
 
 pub element_loads-bounds-closed-l : goal.element_loads-bounds-closed-l
 element_loads-bounds-closed-l t c =
     let the-args = c.args in
     let pre· = (both c.requires.lent (both c.requires.e_lt_elements c.requires.via_bound)) in
     let loop· = c.loop-j in
-    let below = store_below the-args.head.now the-args.next.now the-args.far.now the-args.closed.now the-args.load.now the-args.elements the-args.links pre·.1.0 (the-args.depth - 1) the-args.e the-args.via the-args.loads.now loop·.sum loop·.loads loop·.j loop·.invariant (omega arith) in omega arith
+    let below = store_below the-args.head.now the-args.next.now the-args.far.now the-args.closed.now the-args.load.now the-args.elements the-args.links pre·.0 (the-args.depth - 1) the-args.e the-args.via the-args.loads.now loop·.sum loop·.loads loop·.j loop·.invariant (omega arith) in omega arith
 
 pub element_loads-link_loads-sum-requires : goal.element_loads-link_loads-sum-requires
 element_loads-link_loads-sum-requires t c =
     let the-args = c.args in
     let pre· = (both c.requires.lent (both c.requires.e_lt_elements c.requires.via_bound)) in
     let loop· = c.loop-j in
-    let room = store_room the-args.head.now the-args.next.now the-args.far.now the-args.closed.now the-args.load.now the-args.elements the-args.links pre·.1.0 (the-args.depth - 1) the-args.e the-args.via the-args.loads.now loop·.sum loop·.loads loop·.j loop·.invariant (omega arith) the-args.depth (omega arith) (omega arith) (omega arith) in
-    (omega arith, (pre·.1.0, ((store_below the-args.head.now the-args.next.now the-args.far.now the-args.closed.now the-args.load.now the-args.elements the-args.links pre·.1.0 (the-args.depth - 1) the-args.e the-args.via the-args.loads.now loop·.sum loop·.loads loop·.j loop·.invariant (omega arith), omega arith), omega arith)))
+    let room = store_room the-args.head.now the-args.next.now the-args.far.now the-args.closed.now the-args.load.now the-args.elements the-args.links pre·.0 (the-args.depth - 1) the-args.e the-args.via the-args.loads.now loop·.sum loop·.loads loop·.j loop·.invariant (omega arith) the-args.depth (omega arith) (omega arith) (omega arith) in
+    (omega arith, (pre·.0, ((store_below the-args.head.now the-args.next.now the-args.far.now the-args.closed.now the-args.load.now the-args.elements the-args.links pre·.0 (the-args.depth - 1) the-args.e the-args.via the-args.loads.now loop·.sum loop·.loads loop·.j loop·.invariant (omega arith), omega arith), omega arith)))
 
 pub element_loads-overflow_add-sum : goal.element_loads-overflow_add-sum
 element_loads-overflow_add-sum t c =
     let the-args = c.args in
     let pre· = (both c.requires.lent (both c.requires.e_lt_elements c.requires.via_bound)) in
     let loop· = c.loop-j in
-    let room = store_room the-args.head.now the-args.next.now the-args.far.now the-args.closed.now the-args.load.now the-args.elements the-args.links pre·.1.0 (the-args.depth - 1) the-args.e the-args.via the-args.loads.now loop·.sum loop·.loads loop·.j loop·.invariant (omega arith) the-args.depth (omega arith) (omega arith) (omega arith) in
+    let room = store_room the-args.head.now the-args.next.now the-args.far.now the-args.closed.now the-args.load.now the-args.elements the-args.links pre·.0 (the-args.depth - 1) the-args.e the-args.via the-args.loads.now loop·.sum loop·.loads loop·.j loop·.invariant (omega arith) the-args.depth (omega arith) (omega arith) (omega arith) in
     omega (arith, c.link_loads-sum.ensures.value)
 
 pub element_loads-bounds-next-j : goal.element_loads-bounds-next-j
@@ -63,7 +63,7 @@ element_loads-bounds-next-j t c =
     let the-args = c.args in
     let pre· = (both c.requires.lent (both c.requires.e_lt_elements c.requires.via_bound)) in
     let loop· = c.loop-j in
-    let below = store_below the-args.head.now the-args.next.now the-args.far.now the-args.closed.now the-args.load.now the-args.elements the-args.links pre·.1.0 (the-args.depth - 1) the-args.e the-args.via the-args.loads.now loop·.sum loop·.loads loop·.j loop·.invariant (omega arith) in omega arith
+    let below = store_below the-args.head.now the-args.next.now the-args.far.now the-args.closed.now the-args.load.now the-args.elements the-args.links pre·.0 (the-args.depth - 1) the-args.e the-args.via the-args.loads.now loop·.sum loop·.loads loop·.j loop·.invariant (omega arith) in omega arith
 
 pub element_loads-overflow_cast-j-in-loop-j : goal.element_loads-overflow_cast-j-in-loop-j
 element_loads-overflow_cast-j-in-loop-j t c =
@@ -75,27 +75,27 @@ element_loads-loop-j-smaller t c =
     let the-args = c.args in
     let pre· = (both c.requires.lent (both c.requires.e_lt_elements c.requires.via_bound)) in
     let loop· = c.loop-j in
-    let later = store_later the-args.head.now the-args.next.now the-args.far.now the-args.closed.now the-args.load.now the-args.elements the-args.links pre·.1.0 (the-args.depth - 1) the-args.e the-args.via the-args.loads.now loop·.sum loop·.loads loop·.j loop·.invariant (omega arith) in omega arith
+    let later = store_later the-args.head.now the-args.next.now the-args.far.now the-args.closed.now the-args.load.now the-args.elements the-args.links pre·.0 (the-args.depth - 1) the-args.e the-args.via the-args.loads.now loop·.sum loop·.loads loop·.j loop·.invariant (omega arith) in omega arith
 
 pub element_loads-loop-j-preserved : goal.element_loads-loop-j-preserved
 element_loads-loop-j-preserved t c =
     let the-args = c.args in
     let pre· = (both c.requires.lent (both c.requires.e_lt_elements c.requires.via_bound)) in
     let loop· = c.loop-j in
-    (elim c.if-closed-l-eq1.branch [ element_loads-then-closed-l-eq1+then-l-via w ↦ store_on the-args.head.now the-args.next.now the-args.far.now the-args.closed.now the-args.load.now the-args.elements the-args.links pre·.1.0 (the-args.depth - 1) the-args.e the-args.via the-args.loads.now loop·.sum loop·.loads loop·.j loop·.invariant (omega arith) w.link_loads-sum.result c.if-closed-l-eq1.sum c.if-closed-l-eq1.loads (omega arith) (omega arith) w.link_loads-sum.ensures.0 (omega (arith, w.sum-is)) (w.loads-is ∙ w.link_loads-sum.ensures.1) | element_loads-then-closed-l-eq1+else-l-via w ↦ store_via the-args.head.now the-args.next.now the-args.far.now the-args.closed.now the-args.load.now the-args.elements the-args.links pre·.1.0 (the-args.depth - 1) the-args.e the-args.via the-args.loads.now loop·.sum loop·.loads loop·.j loop·.invariant (omega arith) c.if-closed-l-eq1.sum c.if-closed-l-eq1.loads (omega arith) (omega (arith, w.sum-is)) w.loads-is | element_loads-else-closed-l-eq1 w ↦ store_open the-args.head.now the-args.next.now the-args.far.now the-args.closed.now the-args.load.now the-args.elements the-args.links pre·.1.0 (the-args.depth - 1) the-args.e the-args.via the-args.loads.now loop·.sum loop·.loads loop·.j loop·.invariant (omega arith) c.if-closed-l-eq1.sum c.if-closed-l-eq1.loads (omega arith) (omega (arith, w.sum-is)) w.loads-is ])
+    (elim c.if-closed-l-eq1.branch [ element_loads-then-closed-l-eq1+then-l-via w ↦ store_on the-args.head.now the-args.next.now the-args.far.now the-args.closed.now the-args.load.now the-args.elements the-args.links pre·.0 (the-args.depth - 1) the-args.e the-args.via the-args.loads.now loop·.sum loop·.loads loop·.j loop·.invariant (omega arith) w.link_loads-sum.result c.if-closed-l-eq1.sum c.if-closed-l-eq1.loads (omega arith) (omega arith) w.link_loads-sum.ensures.value (omega (arith, w.sum-is)) (w.loads-is ∙ w.link_loads-sum.ensures.loads_after) | element_loads-then-closed-l-eq1+else-l-via w ↦ store_via the-args.head.now the-args.next.now the-args.far.now the-args.closed.now the-args.load.now the-args.elements the-args.links pre·.0 (the-args.depth - 1) the-args.e the-args.via the-args.loads.now loop·.sum loop·.loads loop·.j loop·.invariant (omega arith) c.if-closed-l-eq1.sum c.if-closed-l-eq1.loads (omega arith) (omega (arith, w.sum-is)) w.loads-is | element_loads-else-closed-l-eq1 w ↦ store_open the-args.head.now the-args.next.now the-args.far.now the-args.closed.now the-args.load.now the-args.elements the-args.links pre·.0 (the-args.depth - 1) the-args.e the-args.via the-args.loads.now loop·.sum loop·.loads loop·.j loop·.invariant (omega arith) c.if-closed-l-eq1.sum c.if-closed-l-eq1.loads (omega arith) (omega (arith, w.sum-is)) w.loads-is ])
 
 pub element_loads-returns : goal.element_loads-returns
 element_loads-returns t c =
     let the-args = c.args in
     let pre· = (both c.requires.lent (both c.requires.e_lt_elements c.requires.via_bound)) in
     let loop· = c.loop-j in
-    record { value = store_load the-args.head.now the-args.next.now the-args.far.now the-args.closed.now the-args.load.now the-args.elements the-args.links pre·.1.0 (the-args.depth - 1) the-args.e the-args.via the-args.loads.now loop·.sum loop·.loads loop·.j loop·.invariant the-args.depth (omega arith) (omega arith); loads_after = store_done the-args.head.now the-args.next.now the-args.far.now the-args.closed.now the-args.load.now the-args.elements the-args.links pre·.1.0 (the-args.depth - 1) the-args.e the-args.via the-args.loads.now loop·.sum loop·.loads loop·.j loop·.invariant the-args.depth (omega arith) (omega arith) }
+    record { value = store_load the-args.head.now the-args.next.now the-args.far.now the-args.closed.now the-args.load.now the-args.elements the-args.links pre·.0 (the-args.depth - 1) the-args.e the-args.via the-args.loads.now loop·.sum loop·.loads loop·.j loop·.invariant the-args.depth (omega arith) (omega arith); loads_after = store_done the-args.head.now the-args.next.now the-args.far.now the-args.closed.now the-args.load.now the-args.elements the-args.links pre·.0 (the-args.depth - 1) the-args.e the-args.via the-args.loads.now loop·.sum loop·.loads loop·.j loop·.invariant the-args.depth (omega arith) (omega arith) }
 
 pub link_loads-returns-then-depth-eq0 : goal.link_loads-returns-then-depth-eq0
 link_loads-returns-then-depth-eq0 t c =
     let the-args = c.args in
     let pre· = (both c.requires.lent (both c.requires.j_bound c.requires.j_bound_2)) in
-    record { value = link_none_load the-args.head.now the-args.next.now the-args.far.now the-args.closed.now the-args.load.now the-args.elements the-args.links pre·.1.0 the-args.loads.now the-args.depth (the-args.j / 2) (near_at the-args.far.now the-args.j) (omega arith); loads_after = link_none_stored the-args.head.now the-args.next.now the-args.far.now the-args.closed.now the-args.load.now the-args.elements the-args.links pre·.1.0 the-args.loads.now the-args.depth (the-args.j / 2) (near_at the-args.far.now the-args.j) (omega arith) }
+    record { value = link_none_load the-args.head.now the-args.next.now the-args.far.now the-args.closed.now the-args.load.now the-args.elements the-args.links pre·.0 the-args.loads.now the-args.depth (the-args.j / 2) (near_at the-args.far.now the-args.j) (omega arith); loads_after = link_none_stored the-args.head.now the-args.next.now the-args.far.now the-args.closed.now the-args.load.now the-args.elements the-args.links pre·.0 the-args.loads.now the-args.depth (the-args.j / 2) (near_at the-args.far.now the-args.j) (omega arith) }
 
 pub link_loads-overflow_cast-f : goal.link_loads-overflow_cast-f
 link_loads-overflow_cast-f t c =
@@ -106,11 +106,11 @@ pub link_loads-element_loads-requires : goal.link_loads-element_loads-requires
 link_loads-element_loads-requires t c =
     let the-args = c.args in
     let pre· = (both c.requires.lent (both c.requires.j_bound c.requires.j_bound_2)) in
-    let same = link_turn_load the-args.head.now the-args.next.now the-args.far.now the-args.closed.now the-args.load.now the-args.load.now the-args.elements the-args.links pre·.1.0 (the-args.depth - 1) the-args.depth the-args.j (omega arith) (omega arith) in
-    (omega arith, (pre·.1.0, ((pre·.1.0.far_in the-args.j (omega arith), omega arith), omega arith)))
+    let same = link_turn_load the-args.head.now the-args.next.now the-args.far.now the-args.closed.now the-args.load.now the-args.load.now the-args.elements the-args.links pre·.0 (the-args.depth - 1) the-args.depth the-args.j (omega arith) (omega arith) in
+    (omega arith, (pre·.0, ((pre·.0.far_in the-args.j (omega arith), omega arith), omega arith)))
 
 pub link_loads-returns : goal.link_loads-returns
 link_loads-returns t c =
     let the-args = c.args in
     let pre· = (both c.requires.lent (both c.requires.j_bound c.requires.j_bound_2)) in
-    record { value = c.element_loads.ensures.value ∙ link_turn_load the-args.head.now the-args.next.now the-args.far.now the-args.closed.now the-args.load.now the-args.load.now the-args.elements the-args.links pre·.1.0 (the-args.depth - 1) the-args.depth the-args.j (omega arith) (omega arith); loads_after = c.element_loads.ensures.loads_after ∙ link_stored_lem the-args.head.now the-args.next.now the-args.far.now the-args.closed.now the-args.load.now the-args.elements the-args.links pre·.1.0 the-args.loads.now (the-args.depth - 1) the-args.depth the-args.j (omega arith) (omega arith) }
+    record { value = c.element_loads.ensures.value ∙ link_turn_load the-args.head.now the-args.next.now the-args.far.now the-args.closed.now the-args.load.now the-args.load.now the-args.elements the-args.links pre·.0 (the-args.depth - 1) the-args.depth the-args.j (omega arith) (omega arith); loads_after = c.element_loads.ensures.loads_after ∙ link_stored_lem the-args.head.now the-args.next.now the-args.far.now the-args.closed.now the-args.load.now the-args.elements the-args.links pre·.0 the-args.loads.now (the-args.depth - 1) the-args.depth the-args.j (omega arith) (omega arith) }

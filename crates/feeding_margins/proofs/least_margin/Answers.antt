@@ -33,10 +33,10 @@ loop-e-preserved c =
     let n = c.loop-e in (
       omega arith,
       (elim c.if-x.branch [
-        | then-x w ↦ spot_on a.capacity.now a.loads.now n.e n.spot c.if-x.spot w.margin_of.result (omega (arith, w.0.taken))
-            (omega (arith, w.1.given n.e)) (p.loads_in n.e (omega arith) (omega (arith, w.0.taken)))
+        | then-x w ↦ spot_on a.capacity.now a.loads.now n.e n.spot c.if-x.spot w.margin_of.result (omega (arith, w.if-x.true))
+            (omega (arith, c.type_inv.capacity n.e)) (p.loads_in n.e (omega arith) (omega (arith, w.if-x.true)))
             n.invariant.1 w.margin_of.ensures (w.spot-is ∙ w.tighter-spot.ensures)
-        | else-x w ↦ spot_off a.capacity.now a.loads.now n.e c.if-x.spot (omega (arith, w.0.left)) (w.spot-is ∙ n.invariant.1)
+        | else-x w ↦ spot_off a.capacity.now a.loads.now n.e c.if-x.spot (omega (arith, w.if-x.false)) (w.spot-is ∙ n.invariant.1)
       ]),
     )
 

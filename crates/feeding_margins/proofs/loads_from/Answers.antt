@@ -29,7 +29,7 @@ loop-s-preserved c =
     let the-args = c.args in
     let loop· = c.loop-s in (
       omega arith,
-      (elim c.if-marked-s-eq1.branch [ then-marked-s-eq1 w ↦ stored_on the-args.elements the-args.links the-args.far.now the-args.load.now (closed_in the-args.closed.now) the-args.marked.now (replicate 64 unfed) loop·.s loop·.loads c.if-marked-s-eq1.loads (omega arith) loop·.invariant.1 (w.loads-is ∙ w.element_loads.ensures.1) | else-marked-s-eq1 w ↦ stored_off the-args.elements the-args.links the-args.far.now the-args.load.now (closed_in the-args.closed.now) the-args.marked.now (replicate 64 unfed) loop·.s loop·.loads c.if-marked-s-eq1.loads (omega arith) loop·.invariant.1 w.loads-is ]),
+      (elim c.if-marked-s-eq1.branch [ then-marked-s-eq1 w ↦ stored_on the-args.elements the-args.links the-args.far.now the-args.load.now (closed_in the-args.closed.now) the-args.marked.now (replicate 64 unfed) loop·.s loop·.loads c.if-marked-s-eq1.loads (omega arith) loop·.invariant.1 (w.loads-is ∙ w.element_loads.ensures.loads_after) | else-marked-s-eq1 w ↦ stored_off the-args.elements the-args.links the-args.far.now the-args.load.now (closed_in the-args.closed.now) the-args.marked.now (replicate 64 unfed) loop·.s loop·.loads c.if-marked-s-eq1.loads (omega arith) loop·.invariant.1 w.loads-is ]),
     )
 
 pub returns : goal.returns

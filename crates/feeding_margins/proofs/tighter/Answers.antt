@@ -10,11 +10,9 @@ returns-in-Nowhere c =
 pub returns-then-m-k : goal.returns-then-m-k
 returns-then-m-k c =
     let a = c.args in
-    let v = c.spot-1.given in
-    tighter_less a.spot a.e a.m c.ranges.m v.0.0 v.0.1.0 v.1 (record { sfits = c.known_told-1.given.1.0.1 }) c.if-m-k.true
+    tighter_less a.spot a.e a.m c.ranges.m c.in-At.x c.in-At.k c.in-At.is (record { sfits = c.in-At.known_told-1-own.given.1.0.1 }) c.if-m-k.true
 
 pub returns-in-At : goal.returns-in-At
 returns-in-At c =
     let a = c.args in
-    let v = c.spot-1.given in
-    tighter_more a.spot a.e a.m c.ranges.m v.0.0 v.0.1.0 v.1 (record { sfits = c.known_told-1.given.1.0.1 }) c.if-m-k.false
+    tighter_more a.spot a.e a.m c.ranges.m c.in-At.x c.in-At.k c.in-At.is (record { sfits = c.in-At.known_told-1-own.given.1.0.1 }) c.if-m-k.false

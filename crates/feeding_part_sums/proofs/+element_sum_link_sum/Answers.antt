@@ -19,13 +19,13 @@ element_sum-bounds-numbers-e t c =
 
 pub element_sum-overflow_cast-own : goal.element_sum-overflow_cast-own
 element_sum-overflow_cast-own t c =
-    omega (arith, c.shared_slice_known-1.given c.args.e)
+    omega (arith, c.fits-number c.args.e)
 
 pub element_sum-overflow_add-sum : goal.element_sum-overflow_add-sum
 element_sum-overflow_add-sum t c =
-    let pre· = (both c.requires.sum_lent (both c.requires.e_lt_elements c.requires.via_bound)) in
+    let pre· = c.requires in
     let the-args = c.args in
-    omega (arith, own-fits pre·.1.0 (the-args.depth - 1) the-args.e the-args.via the-args.before the-args.depth, pre·.1.1.1)
+    omega (arith, own-fits pre·.sum_lent (the-args.depth - 1) the-args.e the-args.via the-args.before the-args.depth, pre·.via_bound)
 
 pub element_sum-returns-then-depth-eq0 : goal.element_sum-returns-then-depth-eq0
 element_sum-returns-then-depth-eq0 t c =
@@ -38,64 +38,64 @@ element_sum-bounds-chain-e t c =
 
 pub element_sum-overflow_cast-j : goal.element_sum-overflow_cast-j
 element_sum-overflow_cast-j t c =
-    let pre· = (both c.requires.sum_lent (both c.requires.e_lt_elements c.requires.via_bound)) in
+    let pre· = c.requires in
     let the-args = c.args in
-    omega (arith, head_read pre·.1.0 (the-args.depth - 1) the-args.e the-args.via (omega arith))
+    omega (arith, head_read pre·.sum_lent (the-args.depth - 1) the-args.e the-args.via (omega arith))
 
 pub element_sum-loop-j-init : goal.element_sum-loop-j-init
 element_sum-loop-j-init t c =
-    let pre· = (both c.requires.sum_lent (both c.requires.e_lt_elements c.requires.via_bound)) in
+    let pre· = c.requires in
     let the-args = c.args in
-    begins pre·.1.0 (the-args.depth - 1) the-args.e the-args.via the-args.before (omega arith) _ (omega arith)
+    begins pre·.sum_lent (the-args.depth - 1) the-args.e the-args.via the-args.before (omega arith) _ (omega arith)
 
 pub element_sum-bounds-closed-l : goal.element_sum-bounds-closed-l
 element_sum-bounds-closed-l t c =
-    let pre· = (both c.requires.sum_lent (both c.requires.e_lt_elements c.requires.via_bound)) in
+    let pre· = c.requires in
     let the-args = c.args in
     let loop· = c.loop-j in
-    omega (arith, below pre·.1.0 (the-args.depth - 1) the-args.e the-args.via the-args.before loop·.sum loop·.last loop·.j loop·.invariant (omega arith), pre·.1.0.lent.fit)
+    omega (arith, below pre·.sum_lent (the-args.depth - 1) the-args.e the-args.via the-args.before loop·.sum loop·.last loop·.j loop·.invariant (omega arith), pre·.sum_lent.lent.fit)
 
 pub element_sum-link_sum-sum-requires : goal.element_sum-link_sum-sum-requires
 element_sum-link_sum-sum-requires t c =
-    let pre· = (both c.requires.sum_lent (both c.requires.e_lt_elements c.requires.via_bound)) in
+    let pre· = c.requires in
     let loop· = c.loop-j in
     let the-args = c.args in
-    ((omega arith), (pre·.1.0, (loop·.invariant.last-in, omega (arith, roomy pre·.1.0 (the-args.depth - 1) the-args.e the-args.via the-args.before loop·.sum loop·.last loop·.j loop·.invariant (omega arith) (omega arith) (omega arith) the-args.depth (omega arith), pre·.1.1.1))))
+    ((omega arith), (pre·.sum_lent, (loop·.invariant.last-in, omega (arith, roomy pre·.sum_lent (the-args.depth - 1) the-args.e the-args.via the-args.before loop·.sum loop·.last loop·.j loop·.invariant (omega arith) (omega arith) (omega arith) the-args.depth (omega arith), pre·.via_bound))))
 
 pub element_sum-overflow_cast-j-in-loop-j : goal.element_sum-overflow_cast-j-in-loop-j
 element_sum-overflow_cast-j-in-loop-j t c =
-    let pre· = (both c.requires.sum_lent (both c.requires.e_lt_elements c.requires.via_bound)) in
+    let pre· = c.requires in
     let the-args = c.args in
     let loop· = c.loop-j in
-    omega (arith, next_read pre·.1.0 (the-args.depth - 1) the-args.e the-args.via the-args.before loop·.sum loop·.last loop·.j loop·.invariant (omega arith))
+    omega (arith, next_read pre·.sum_lent (the-args.depth - 1) the-args.e the-args.via the-args.before loop·.sum loop·.last loop·.j loop·.invariant (omega arith))
 
 pub element_sum-loop-j-smaller : goal.element_sum-loop-j-smaller
 element_sum-loop-j-smaller t c =
-    let pre· = (both c.requires.sum_lent (both c.requires.e_lt_elements c.requires.via_bound)) in
+    let pre· = c.requires in
     let the-args = c.args in
     let loop· = c.loop-j in
-    omega (arith, later pre·.1.0 (the-args.depth - 1) the-args.e the-args.via the-args.before loop·.sum loop·.last loop·.j loop·.invariant (omega arith))
+    omega (arith, later pre·.sum_lent (the-args.depth - 1) the-args.e the-args.via the-args.before loop·.sum loop·.last loop·.j loop·.invariant (omega arith))
 
 pub element_sum-loop-j-preserved : goal.element_sum-loop-j-preserved
 element_sum-loop-j-preserved t c =
-    let pre· = (both c.requires.sum_lent (both c.requires.e_lt_elements c.requires.via_bound)) in
+    let pre· = c.requires in
     let the-args = c.args in
     let loop· = c.loop-j in
-    (elim c.if-closed-l-eq1.branch [ element_sum-then-closed-l-eq1+then-l-via w ↦ goes_on pre·.1.0 (the-args.depth - 1) the-args.e the-args.via the-args.before loop·.sum loop·.last loop·.j loop·.invariant (omega arith) (omega arith) (omega arith) c.if-closed-l-eq1.sum c.if-closed-l-eq1.new (omega (arith, w.link_sum-sum.ensures)) (omega arith) | element_sum-then-closed-l-eq1+else-l-via w ↦ came-by pre·.1.0 (the-args.depth - 1) the-args.e the-args.via the-args.before loop·.sum loop·.last loop·.j loop·.invariant (omega arith) c.if-closed-l-eq1.sum c.if-closed-l-eq1.new (omega arith) (omega arith) (omega arith) | element_sum-else-closed-l-eq1 w ↦ opened pre·.1.0 (the-args.depth - 1) the-args.e the-args.via the-args.before loop·.sum loop·.last loop·.j loop·.invariant (omega arith) c.if-closed-l-eq1.sum c.if-closed-l-eq1.new (omega arith) (omega arith) (omega arith) ])
+    (elim c.if-closed-l-eq1.branch [ element_sum-then-closed-l-eq1+then-l-via w ↦ goes_on pre·.sum_lent (the-args.depth - 1) the-args.e the-args.via the-args.before loop·.sum loop·.last loop·.j loop·.invariant (omega arith) (omega arith) (omega arith) c.if-closed-l-eq1.sum c.if-closed-l-eq1.last (omega (arith, w.link_sum-sum.ensures)) (omega arith) | element_sum-then-closed-l-eq1+else-l-via w ↦ came-by pre·.sum_lent (the-args.depth - 1) the-args.e the-args.via the-args.before loop·.sum loop·.last loop·.j loop·.invariant (omega arith) c.if-closed-l-eq1.sum c.if-closed-l-eq1.last (omega arith) (omega arith) (omega arith) | element_sum-else-closed-l-eq1 w ↦ opened pre·.sum_lent (the-args.depth - 1) the-args.e the-args.via the-args.before loop·.sum loop·.last loop·.j loop·.invariant (omega arith) c.if-closed-l-eq1.sum c.if-closed-l-eq1.last (omega arith) (omega arith) (omega arith) ])
 
 pub element_sum-link_sum-requires : goal.element_sum-link_sum-requires
 element_sum-link_sum-requires t c =
-    let pre· = (both c.requires.sum_lent (both c.requires.e_lt_elements c.requires.via_bound)) in
+    let pre· = c.requires in
     let loop· = c.loop-j in
     let the-args = c.args in
-    ((omega arith), (pre·.1.0, (loop·.invariant.last-in, omega (arith, done pre·.1.0 (the-args.depth - 1) the-args.e the-args.via the-args.before loop·.sum loop·.last loop·.j loop·.invariant the-args.depth (omega arith) (omega arith), pre·.1.1.1))))
+    ((omega arith), (pre·.sum_lent, (loop·.invariant.last-in, omega (arith, done pre·.sum_lent (the-args.depth - 1) the-args.e the-args.via the-args.before loop·.sum loop·.last loop·.j loop·.invariant the-args.depth (omega arith) (omega arith), pre·.via_bound))))
 
 pub element_sum-returns : goal.element_sum-returns
 element_sum-returns t c =
-    let pre· = (both c.requires.sum_lent (both c.requires.e_lt_elements c.requires.via_bound)) in
+    let pre· = c.requires in
     let the-args = c.args in
     let loop· = c.loop-j in
-    c.link_sum.ensures ∙ done pre·.1.0 (the-args.depth - 1) the-args.e the-args.via the-args.before loop·.sum loop·.last loop·.j loop·.invariant the-args.depth (omega arith) (omega arith)
+    c.link_sum.ensures ∙ done pre·.sum_lent (the-args.depth - 1) the-args.e the-args.via the-args.before loop·.sum loop·.last loop·.j loop·.invariant the-args.depth (omega arith) (omega arith)
 
 pub link_sum-returns-then-j-ge192 : goal.link_sum-returns-then-j-ge192
 link_sum-returns-then-j-ge192 t c =
@@ -109,17 +109,17 @@ link_sum-returns-then-depth-eq0 t c =
 
 pub link_sum-overflow_cast-f : goal.link_sum-overflow_cast-f
 link_sum-overflow_cast-f t c =
-    let pre· = (both c.requires.sum_lent (both c.requires.j_bound c.requires.j_bound_2)) in
-    omega (arith, far_in pre·.1.0 c.args.j (omega arith) (pre·.1.1.0 (omega arith)), pre·.1.0.few)
+    let pre· = c.requires in
+    omega (arith, far_in pre·.sum_lent c.args.j (omega arith) (pre·.j_bound (omega arith)), pre·.sum_lent.few)
 
 pub link_sum-element_sum-requires : goal.link_sum-element_sum-requires
 link_sum-element_sum-requires t c =
-    let pre· = (both c.requires.sum_lent (both c.requires.j_bound c.requires.j_bound_2)) in
+    let pre· = c.requires in
     let the-args = c.args in
-    ((omega arith), (pre·.1.0, (far_in pre·.1.0 the-args.j (omega arith) (pre·.1.1.0 (omega arith)), omega (arith, link_is pre·.1.0 the-args.j (omega arith) (pre·.1.1.0 (omega arith)) (the-args.depth - 1) the-args.depth (omega arith), pre·.1.1.1))))
+    ((omega arith), (pre·.sum_lent, (far_in pre·.sum_lent the-args.j (omega arith) (pre·.j_bound (omega arith)), omega (arith, link_is pre·.sum_lent the-args.j (omega arith) (pre·.j_bound (omega arith)) (the-args.depth - 1) the-args.depth (omega arith), pre·.j_bound_2))))
 
 pub link_sum-returns : goal.link_sum-returns
 link_sum-returns t c =
-    let pre· = (both c.requires.sum_lent (both c.requires.j_bound c.requires.j_bound_2)) in
+    let pre· = c.requires in
     let the-args = c.args in
-    omega (arith, c.element_sum.ensures, link_is pre·.1.0 the-args.j (omega arith) (pre·.1.1.0 (omega arith)) (the-args.depth - 1) the-args.depth (omega arith))
+    omega (arith, c.element_sum.ensures, link_is pre·.sum_lent the-args.j (omega arith) (pre·.j_bound (omega arith)) (the-args.depth - 1) the-args.depth (omega arith))

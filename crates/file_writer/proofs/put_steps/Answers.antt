@@ -15,8 +15,8 @@ pub loop-i-preserved : goal.loop-i-preserved
 loop-i-preserved c =
     let a = c.args in
     let l = c.loop-i in
-    let e = step_stored a.t2 a.buffer.now _ _ l.i l.invariant.2 c.put_step.ensures in
-    (omega arith, stored_length a.buffer.now _ 6 (steps_bytes a.t2 (l.i + 1)) e, e)
+    let e = step_stored a.plan a.buffer.now _ _ l.i l.invariant.2 c.put_step.ensures in
+    (omega arith, stored_length a.buffer.now _ 6 (steps_bytes a.plan (l.i + 1)) e, e)
 
 pub shape_of-buffer : goal.shape_of-buffer
 shape_of-buffer c = c.loop-i.invariant.1
@@ -25,5 +25,5 @@ pub returns : goal.returns
 returns c =
     let a = c.args in
     let i = c.loop-i.i in
-    let all : i ≡ a.t2.steps = omega arith in
-    c.loop-i.invariant.2 ∙ ap (λ (k : ℕ). sets a.buffer.now 6 (steps_bytes a.t2 k)) all
+    let all : i ≡ a.plan.steps = omega arith in
+    c.loop-i.invariant.2 ∙ ap (λ (k : ℕ). sets a.buffer.now 6 (steps_bytes a.plan k)) all

@@ -5,9 +5,13 @@ use Rattle.network.proofs.Pairs.{both}
 use Rattle.final_lines.proofs.final_lines.Goals as goal
 
 pub returns-in-Refused : goal.returns-in-Refused
-returns-in-Refused c = let the-args = c.args in
-    refused_final_lem the-args.answer the-args.marks the-args.out.now _ _ _ c.in let whole = -Refused.is (both c.refused_line.ensures.value c.refused_line.ensures.out_after) in record { value = whole.0; out_after = whole.1.0; counted = whole.1.1 }
+returns-in-Refused c =
+    let a = c.args in
+    let whole = refused_final_lem a.answer a.marks a.out.now _ _ _ c.in-Refused.is (both c.refused_line.ensures.value c.refused_line.ensures.out_after) in
+    record { value = whole.0; out_after = whole.1.0; counted = whole.1.1 }
 
 pub returns-in-Accepted : goal.returns-in-Accepted
-returns-in-Accepted c = let the-args = c.args in
-    marked_final_lem the-args.answer the-args.marks the-args.out.now _ _ c.in let whole = -Accepted.is (omega arith) (both c.put_marks.ensures.value c.put_marks.ensures.out_after) in record { value = whole.0; out_after = whole.1.0; counted = whole.1.1 }
+returns-in-Accepted c =
+    let a = c.args in
+    let whole = marked_final_lem a.answer a.marks a.out.now _ _ c.in-Accepted.is (omega arith) (both c.put_marks.ensures.value c.put_marks.ensures.out_after) in
+    record { value = whole.0; out_after = whole.1.0; counted = whole.1.1 }
