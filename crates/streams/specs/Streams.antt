@@ -1,17 +1,20 @@
--- How far an input is read, by what C's read answers.
+-- How far an input is read, by what a read answers.
 -- Internal: no promise to a user is said by it.
 -- Assumes nothing.
-use Rattle.std.specs.Prelude.{◌≡◌, List, ℕ, zero, suc, ◌+◌, ◌≤◌, min, length, ℤ, pos, negsuc}
-use Rattle.io.specs.Counts.{IsPrefixLen}
+use Rattle.std.specs.Prelude.{◌≡◌, List, ℕ, zero, suc, ◌+◌, ◌≤◌, min, length, take, Result, Ok, Err}
 use Rattle.streams.specs.declared.Input.{Input}
 use Rattle.streams.specs.declared.Input.TheVariants as Input·
 
--- where `at` bytes stood in a buffer and room is left for so many: by POSIX a negative answer is an error, 0 the input's end, and another one the
--- count of bytes that came
-unfoldable pub input_after : ℤ → ℕ → ℕ → Input
-input_after (negsuc k) at room = Input·.Failed
-input_after (pos zero) at room = Input·.Whole at
-input_after (pos (suc k)) at room = Input·.More (at + min (suc k) room)
+-- the first n of xs are in bounds, and are n. The second part follows from the first
+abbrev pub IsPrefixLen : ℕ → List ℕ → Type 0
+IsPrefixLen n xs = (n ≤ length xs) × (n ≡ length (take n xs))
+
+-- where `at` bytes stood in a buffer and room is left for so many: a read answers an error, or 0 at the input's end, or the count of bytes that
+-- came
+unfoldable pub input_after : {E : Type 0} → Result ℕ E → ℕ → ℕ → Input
+input_after (Err e) at room = Input·.Failed
+input_after (Ok zero) at room = Input·.Whole at
+input_after (Ok (suc k)) at room = Input·.More (at + min (suc k) room)
 
 -- what was read so far stands in front of the buffer
 abbrev pub Held : Input → List ℕ → Type 0
