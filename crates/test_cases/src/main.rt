@@ -229,12 +229,10 @@ fn run_behind<P: Print>(
 
 // The first place of a byte from a place on, or where the bytes end.
 fn find(bytes: &[u8], from: usize, byte: u8) -> usize {
-    let mut i = from;
-    while i < bytes.len() {
+    for i in from..bytes.len() {
         if bytes[i] == byte {
             return i;
         }
-        i += 1;
     }
     bytes.len()
 }
