@@ -1,6 +1,6 @@
 -- Each answer of a read is one of three, and what was read lies within the buffer: by cases on the answer.
 -- Assumes nothing.
-use Rattle.std.proofs.Common.{◌≡◌, ℕ, zero, suc, ◌+◌, ◌≤◌, min, List, length, take, drop, length-take, length-drop, length-take-le, Result, Ok, Err, refl, sym, subst, arith}
+use Rattle.std.proofs.Common.{◌≡◌, ℕ, zero, suc, ◌+◌, ◌≤◌, min, List, length, take, drop, length-take, length-drop, length-take-le, Result, Ok, Err, sym, subst, arith}
 use Rattle.std.proofs.Math.Nat.{min-le_right}
 use Rattle.streams.specs.declared.Input.{Input}
 use Rattle.streams.specs.declared.Input.TheVariants as Input·

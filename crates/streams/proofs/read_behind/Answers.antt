@@ -1,8 +1,8 @@
 -- What a read answers lies within the buffer.
 -- Assumes nothing.
-use Rattle.std.proofs.Common.{◌≤◌, ◌-◌, length, arith}
+use Rattle.std.proofs.Common.{◌-◌, length, arith}
 use borrow.Rule.Slice.PartMut.{put_mid}
-use Rattle.streams.proofs.Answers.{held, grown, part_within}
+use Rattle.streams.proofs.Answers.{held, grown}
 use Rattle.streams.proofs.read_behind.Goals as goal
 
 pub returns-then-at-buffer-clause-held : goal.returns-then-at-buffer-clause-held
