@@ -1,10 +1,16 @@
 -- Each answer of a read is one of three, and what was read lies within the buffer: by cases on the answer.
 -- Assumes nothing.
-use Rattle.std.proofs.Common.{◌≡◌, ℕ, zero, suc, ◌+◌, ◌≤◌, min, List, length, take, drop, length-take, length-drop, length-take-le, Result, Ok, Err, sym, subst, arith}
+use Rattle.std.proofs.Common.{◌≡◌, ℕ, zero, suc, ◌+◌, ◌≤◌, min, List, length, length-take-le, Result, Ok, Err, sym, ap, subst, arith}
 use Rattle.std.proofs.Math.Nat.{min-le_right}
 use Rattle.streams.specs.declared.Input.{Input}
 use Rattle.streams.specs.declared.Input.TheVariants as Input·
 use Rattle.streams.specs.Streams.{IsPrefixLen, input_after, Held, Grown, Ended}
+
+pub failed : {E : Type 0} (got : Result ℕ E) (e : E) (at room : ℕ) → got ≡ Err e → Input·.Failed ≡ input_after got at room
+unfolding input_after
+failed {E} got e at room is = ap (λ (g : Result ℕ E). input_after g at room) (sym is)
+
+-- ---- what was read lies within the buffer
 
 counted : (n : ℕ) (buffer : List ℕ) → n ≤ length buffer → IsPrefixLen n buffer
 counted n buffer h = (h, sym (length-take-le n buffer h))
@@ -22,13 +28,6 @@ unfolding input_after
 grown (Err e) from at room buffer r is h = subst (λ (i : Input). Grown from i buffer) (sym is) tt
 grown (Ok zero) from at room buffer r is h = subst (λ (i : Input). Grown from i buffer) (sym is) h
 grown (Ok (suc k)) from at room buffer r is h = subst (λ (i : Input). Grown from i buffer) (sym is) (omega arith)
-
-pub part_within : (at k : ℕ) (buffer : List ℕ) → at ≤ length buffer → at + length (take k (drop at buffer)) ≤ length buffer
-part_within at k buffer h =
-    let cut = length-take k (drop at buffer) in
-    let rest = length-drop at buffer in
-    let x = min-le_right k (length (drop at buffer)) in
-    omega arith
 
 -- for a caller that goes on where the input is whole
 pub whole_counted : (r : Input) (n : ℕ) (buffer : List ℕ) → Ended r buffer → r ≡ Input·.Whole n → IsPrefixLen n buffer

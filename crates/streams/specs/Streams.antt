@@ -1,7 +1,8 @@
 -- How far an input is read, by what a read answers.
 -- Internal: no promise to a user is said by it.
 -- Assumes nothing.
-use Rattle.std.specs.Prelude.{◌≡◌, List, ℕ, zero, suc, ◌+◌, ◌≤◌, min, length, take, Result, Ok, Err}
+use Rattle.std.specs.Prelude.{◌≡◌, List, [], ◌++◌, ℕ, zero, suc, ◌+◌, ◌≤◌, min, length, take, Option, Result, Ok, Err}
+use Rattle.std.specs.Io.KnownBytes.{Consumes, IsAtEnd}
 use Rattle.streams.specs.declared.Input.{Input}
 use Rattle.streams.specs.declared.Input.TheVariants as Input·
 
@@ -33,3 +34,16 @@ abbrev pub Ended : Input → List ℕ → Type 0
 Ended (Input·.More n) buffer = ⊥
 Ended (Input·.Whole n) buffer = IsPrefixLen n buffer
 Ended Input·.Failed buffer = Unit {0}
+
+-- where it is known what a reader gives, before and after one read: the buffer shows the front that was read before and what the read brought
+-- behind it, as far as it has room; an input that ended brought nothing, and nothing is left of it
+abbrev pub Brings : List ℕ → Option (List ℕ) → Option (List ℕ) → Input → List ℕ → Type 0
+Brings front old new (Input·.More n) buffer = (bs : List ℕ) × Consumes old new bs × (take n buffer ≡ take (length buffer) (front ++ bs))
+Brings front old new (Input·.Whole n) buffer = IsAtEnd new × Consumes old new [] × (take n buffer ≡ take (length buffer) front)
+Brings front old new Input·.Failed buffer = Unit {0}
+
+-- a whole input stands in front of the buffer, as far as the buffer has room: all that the reader had
+abbrev pub Shows : Input → List ℕ → List ℕ → Type 0
+Shows (Input·.More n) buffer all = Unit {0}
+Shows (Input·.Whole n) buffer all = take n buffer ≡ take (length buffer) all
+Shows Input·.Failed buffer all = Unit {0}

@@ -1,9 +1,10 @@
 // An input read to its end and a reply written, with each failure told on standard error.
 #![tactic(auto)]
 
-ghost use Rattle.std.specs.Prelude.{◌+◌, ◌<◌, ◌^◌, ◌≡◌, ◌≤◌, length, take};
+ghost use Rattle.std.specs.Prelude.{◌+◌, ◌<◌, ◌^◌, ◌≡◌, ◌≤◌, IfSome, length, take};
 ghost use Rattle.file_network.specs.Deciding.{decides};
-ghost use Rattle.streams.specs.Streams.{input_after, Held, Grown, Ended, IsPrefixLen};
+ghost use Rattle.std.specs.Io.KnownBytes.{Consumes};
+ghost use Rattle.streams.specs.Streams.{input_after, Held, Grown, Ended, Brings, Shows, IsPrefixLen};
 
 use std::io;
 use std::io::{Read, Write};
@@ -43,6 +44,7 @@ fn read_behind<R: Read>(from: &mut R, buffer: &mut [u8], at: usize) -> Input
     ensures held { Held result buffer.new }
     ensures grown { Grown at result buffer.new }
     ensures buffer_unchanged { take at buffer.new ≡ take at buffer.old }
+    ensures known { Brings (take at buffer.old) (R.remaining from.old) (R.remaining from.new) result buffer.new }
 {
     if at < buffer.len() {
         let got = from.read(&mut buffer[at..]);
@@ -55,7 +57,8 @@ fn read_behind<R: Read>(from: &mut R, buffer: &mut [u8], at: usize) -> Input
 
 // All of an input, of which the buffer takes what fits. The count of turns only says that the loop ends.
 fn read_all<R: Read>(from: &mut R, buffer: &mut [u8]) -> Input
-    ensures { Ended result buffer.new }
+    ensures ended { Ended result buffer.new }
+    ensures known { IfSome (R.remaining from.old) (Shows result buffer.new) }
 {
     let mut at = 0usize;
     for _ in 0..u64::MAX {
@@ -82,7 +85,8 @@ pub fn read_input<R: Read, E: Write>(
     program: &[u8],
     buffer: &mut [u8],
 ) -> Input
-    ensures { Ended result buffer.new }
+    ensures ended { Ended result buffer.new }
+    ensures known { IfSome (R.remaining from.old) (Shows result buffer.new) }
 {
     let input = read_all(from, buffer);
     match input {
@@ -102,18 +106,16 @@ pub fn write_reply<W: Write, E: Write>(to: &mut W, errors: &mut E, program: &[u8
 
 // Reads until the buffer is full, the input ends or a read fails, and answers how many bytes stand in front of the buffer then.
 pub fn read_full<R: Read>(from: &mut R, buffer: &mut [u8]) -> usize
-    ensures { IsPrefixLen result buffer.new }
+    ensures in_bounds { IsPrefixLen result buffer.new }
+    ensures known { Consumes (R.remaining from.old) (R.remaining from.new) (take result buffer.new) }
 {
     let mut done = 0usize;
     while done < buffer.len() {
-        let n = match from.read(&mut buffer[done..]) {
-            Ok(n) => n,
-            Err(_) => 0,
-        };
-        if n == 0 {
-            break;
+        match from.read(&mut buffer[done..]) {
+            Ok(0) => break,
+            Ok(n) => done += n,
+            Err(_) => break,
         }
-        done += n;
     }
     done
 }
