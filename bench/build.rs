@@ -1,4 +1,4 @@
-// With the feature `library`, links the static library that `rt staticlib tamchuwe` wrote into the program `bench`.
+// With the feature `library`, links the static library that `rt lib` wrote in crates/tamchuwe into the program `bench`.
 fn main() {
     println!("cargo:rerun-if-env-changed=TAMCHUWE_LIB");
     if std::env::var_os("CARGO_FEATURE_LIBRARY").is_none() {

@@ -1,8 +1,8 @@
 /* Tamchuwe: the proved planner, judge and judge of finals for restoring radial feeders, as a static library for x86-64
  * Linux.
  *
- *     rt check tamchuwe && rt staticlib tamchuwe        (writes target/staticlib/libtamchuwe.a)
- *     cc -Iinclude yours.c target/staticlib/libtamchuwe.a -o yours
+ *     (cd crates/tamchuwe && rt check && rt lib)        (writes crates/tamchuwe/out/libtamchuwe.a)
+ *     cc -Iinclude yours.c crates/tamchuwe/out/libtamchuwe.a -o yours
  *
  * What each function answers and writes is proved for every input; the contracts stand in crates/tamchuwe/src/lib.rt.
  * Not proved, because C is outside the proofs: that the caller keeps what is asked here. Each pointer leads to as

@@ -3,13 +3,13 @@
 
 use streams::Input;
 
-fn main() {
+fn main(rt: HostRuntime) {
     let mut bytes = streams::input_buffer();
-    let input = streams::read_input(b"mark", &mut bytes);
+    let input = streams::read_input(&mut rt.stdin(), &mut rt.stderr(), b"mark", &mut bytes);
     let Input::Whole(length) = input else {
         return;
     };
-    let mut out = io::buffer();
+    let mut out = [0u8; 4096];
     let written = judge::mark_text(&bytes[..length], &mut out);
-    streams::write_reply(b"mark", &out[..written]);
+    streams::write_reply(&mut rt.stdout(), &mut rt.stderr(), b"mark", &out[..written]);
 }

@@ -4,7 +4,6 @@
 
 use file_plan::plan::Plan;
 use file_writer::Written;
-use libc::STDIN_FILENO;
 use network::refusal;
 use network::refusal::{Answer, Refusal};
 use plan_least_cost::Cheapest;
@@ -40,180 +39,179 @@ fn wide32(n: u32) -> u64 {
     n as u64
 }
 
-fn show_bytes(bytes: &[u8]) {
-    let mut i: usize = 0;
-    while i < bytes.len() {
-        field(wide(bytes[i]));
-        i += 1;
+fn show_bytes<P: Print>(rt: &P, bytes: &[u8]) {
+    for &byte in bytes {
+        field(rt, wide(byte));
     }
-    text(b"\n");
+    text(rt, b"\n");
 }
 
-fn show_refusal(refused: Refusal) {
-    text(b"refused");
+fn show_refusal<P: Print>(rt: &P, refused: Refusal) {
+    text(rt, b"refused");
     let rule = refused.rule;
-    field(wide(refusal::number(rule)));
-    field(refused.place as u64);
+    field(rt, wide(refusal::number(rule)));
+    field(rt, refused.place as u64);
 }
 
 // What a reader answers, with the counts of elements, links and steps that it hands out.
-fn show_answer(answer: Answer, elements: usize, links: usize, steps: u8) {
+fn show_answer<P: Print>(rt: &P, answer: Answer, elements: usize, links: usize, steps: u8) {
     match answer {
-        Answer::Refused(refused) => show_refusal(refused),
+        Answer::Refused(refused) => show_refusal(rt, refused),
         Answer::Accepted => {
-            text(b"accepted");
-            field(elements as u64);
-            field(links as u64);
-            field(wide(steps));
+            text(rt, b"accepted");
+            field(rt, elements as u64);
+            field(rt, links as u64);
+            field(rt, wide(steps));
         }
     }
-    text(b"\n");
+    text(rt, b"\n");
 }
 
-fn read_network(bytes: &[u8]) {
+fn read_network<P: Print>(rt: &P, bytes: &[u8]) {
     let read = file_network::read_network(bytes);
     let answer = read.answer;
     let net = read.net;
-    show_answer(answer, net.elements, net.links, 0);
+    show_answer(rt, answer, net.elements, net.links, 0);
 }
 
-fn read_input(bytes: &[u8]) {
+fn read_input<P: Print>(rt: &P, bytes: &[u8]) {
     let read = file_both::read_network_and_plan(bytes);
     let answer = read.answer;
     let net = read.net;
     let plan = read.plan;
-    show_answer(answer, net.elements, net.links, plan.steps);
+    show_answer(rt, answer, net.elements, net.links, plan.steps);
 }
 
 // A plan file from a place on, for a network of five links.
-fn read_plan(bytes: &[u8], place: usize) {
+fn read_plan<P: Print>(rt: &P, bytes: &[u8], place: usize) {
     let read = file_plan::read_plan(bytes, place, 5);
     let answer = read.answer;
     let plan = read.plan;
-    show_answer(answer, 0, 0, plan.steps);
+    show_answer(rt, answer, 0, 0, plan.steps);
 }
 
 // Element 3 and link 3 as they are read.
-fn entries(bytes: &[u8]) {
+fn entries<P: Print>(rt: &P, bytes: &[u8]) {
     let read = file_both::read_network_and_plan(bytes);
     let net = read.net;
-    text(b"entries");
-    field(wide32(net.load[3]));
-    field(wide32(net.capacity[3]));
-    field(wide16(net.flags[3]));
-    field(wide16(net.from[3]));
-    field(wide16(net.to[3]));
-    field(wide16(net.form[3]));
-    field(wide16(net.cost[3]));
-    field(wide16(net.guard[3]));
-    text(b"\n");
+    text(rt, b"entries");
+    field(rt, wide32(net.load[3]));
+    field(rt, wide32(net.capacity[3]));
+    field(rt, wide16(net.flags[3]));
+    field(rt, wide16(net.from[3]));
+    field(rt, wide16(net.to[3]));
+    field(rt, wide16(net.form[3]));
+    field(rt, wide16(net.cost[3]));
+    field(rt, wide16(net.guard[3]));
+    text(rt, b"\n");
 }
 
 // The plan written into the first bytes of a buffer, and the whole buffer then.
-fn write_into(plan: Plan, buffer: &mut [u8], length: usize) {
+fn write_into<P: Print>(rt: &P, plan: Plan, buffer: &mut [u8], length: usize) {
     if buffer.len() < length {
         return;
     }
     let written = file_writer::write_plan(plan, &mut buffer[0..length]);
     match written {
-        Written::Refused(refused) => show_refusal(refused),
+        Written::Refused(refused) => show_refusal(rt, refused),
         Written::Bytes(n) => {
-            text(b"written");
-            field(n as u64);
+            text(rt, b"written");
+            field(rt, n as u64);
         }
     }
-    text(b":");
-    show_bytes(buffer);
+    text(rt, b":");
+    show_bytes(rt, buffer);
 }
 
 // The plan that is read, written into the first bytes of a buffer of 20, all 7.
-fn write(bytes: &[u8], length: usize) {
+fn write<P: Print>(rt: &P, bytes: &[u8], length: usize) {
     let read = file_both::read_network_and_plan(bytes);
     let plan = read.plan;
     let mut buffer: [u8; 20] = [7; 20];
-    write_into(plan, &mut buffer, length);
+    write_into(rt, plan, &mut buffer, length);
 }
 
-fn show_sums(sums: Sums) {
-    field(sums.fed);
-    field(sums.dark);
-    field(sums.lost);
+fn show_sums<P: Print>(rt: &P, sums: Sums) {
+    field(rt, sums.fed);
+    field(rt, sums.dark);
+    field(rt, sums.lost);
 }
 
-fn show_reply(reply: Reply) {
+fn show_reply<P: Print>(rt: &P, reply: Reply) {
     match reply {
         Reply::Plan(planned) => {
-            text(b"plan");
-            field(planned.steps as u64);
-            field(planned.cost);
+            text(rt, b"plan");
+            field(rt, planned.steps as u64);
+            field(rt, planned.cost);
             let sums = planned.sums;
-            show_sums(sums);
+            show_sums(rt, sums);
         }
         Reply::NoPlan(sums) => {
-            text(b"none");
-            show_sums(sums);
+            text(rt, b"none");
+            show_sums(rt, sums);
         }
-        Reply::Refused(refused) => show_refusal(refused),
+        Reply::Refused(refused) => show_refusal(rt, refused),
     }
 }
 
 // The planner's reply, and what the buffer holds then.
-fn plan_into(bytes: &[u8], buffer: &mut [u8]) {
+fn plan_into<P: Print>(rt: &P, bytes: &[u8], buffer: &mut [u8]) {
     let reply = planner::plan_into(bytes, buffer);
-    show_reply(reply);
-    text(b":");
-    show_bytes(buffer);
+    show_reply(rt, reply);
+    text(rt, b":");
+    show_bytes(rt, buffer);
 }
 
 // With a plan buffer of `length` bytes, all 9.
-fn into(bytes: &[u8], length: usize) {
+fn into<P: Print>(rt: &P, bytes: &[u8], length: usize) {
     let mut buffer: [u8; 24] = [9; 24];
     if 24 < length {
         return;
     }
-    plan_into(bytes, &mut buffer[0..length]);
+    plan_into(rt, bytes, &mut buffer[0..length]);
 }
 
-fn cheapest(bytes: &[u8]) {
+fn cheapest<P: Print>(rt: &P, bytes: &[u8]) {
     let found = plan_least_cost::cheapest_in(bytes);
     match found {
         Cheapest::Cost(cost) => {
-            text(b"costs");
-            field(cost);
+            text(rt, b"costs");
+            field(rt, cost);
         }
-        Cheapest::NoPlan => text(b"none"),
-        Cheapest::Refused(refused) => show_refusal(refused),
+        Cheapest::NoPlan => text(rt, b"none"),
+        Cheapest::Refused(refused) => show_refusal(rt, refused),
     }
-    text(b"\n");
+    text(rt, b"\n");
 }
 
-fn run_on(how: Run, bytes: &[u8]) {
+fn run_on<P: Print>(rt: &P, how: Run, bytes: &[u8]) {
     match how {
-        Run::Planner => print_plan(bytes),
-        Run::Judge => print_mark(bytes),
-        Run::Final => print_final(bytes),
-        Run::Cheapest => cheapest(bytes),
-        Run::Network => read_network(bytes),
-        Run::Input => read_input(bytes),
-        Run::Entries => entries(bytes),
-        Run::Into(length) => into(bytes, length),
-        Run::PlanFrom(place) => read_plan(bytes, place),
-        Run::Write(length) => write(bytes, length),
+        Run::Planner => print_plan(rt, bytes),
+        Run::Judge => print_mark(rt, bytes),
+        Run::Final => print_final(rt, bytes),
+        Run::Cheapest => cheapest(rt, bytes),
+        Run::Network => read_network(rt, bytes),
+        Run::Input => read_input(rt, bytes),
+        Run::Entries => entries(rt, bytes),
+        Run::Into(length) => into(rt, bytes, length),
+        Run::PlanFrom(place) => read_plan(rt, bytes, place),
+        Run::Write(length) => write(rt, bytes, length),
     }
 }
 
 // The case's label, and what the first bytes get.
-fn run_front(label: &[u8], how: Run, bytes: &[u8], length: usize) {
+fn run_front<P: Print>(rt: &P, label: &[u8], how: Run, bytes: &[u8], length: usize) {
     if bytes.len() < length {
         return;
     }
-    text(label);
-    text(b": ");
-    run_on(how, &bytes[0..length]);
+    text(rt, label);
+    text(rt, b": ");
+    run_on(rt, how, &bytes[0..length]);
 }
 
 // Three texts behind what stands in the buffer, the second of them several times.
-fn run_behind(
+fn run_behind<P: Print>(
+    rt: &P,
     label: &[u8],
     how: Run,
     out: &mut [u8; 4096],
@@ -226,17 +224,15 @@ fn run_behind(
     let begun = put(out, at, first);
     let repeated = put_times(out, begun, again, times);
     let length = put(out, repeated, last);
-    run_front(label, how, out, length);
+    run_front(rt, label, how, out, length);
 }
 
 // The first place of a byte from a place on, or where the bytes end.
 fn find(bytes: &[u8], from: usize, byte: u8) -> usize {
-    let mut i = from;
-    while i < bytes.len() {
+    for i in from..bytes.len() {
         if bytes[i] == byte {
             return i;
         }
-        i += 1;
     }
     bytes.len()
 }
@@ -281,22 +277,22 @@ fn put_first(out: &mut [u8; 4096], input: &[u8], signs: &[u8]) -> usize {
     put_named(out, input, signs[1])
 }
 
-fn run_text(input: &[u8], label: &[u8], how: Run, signs: &[u8]) {
-    let mut out = io::buffer();
+fn run_text<P: Print>(rt: &P, input: &[u8], label: &[u8], how: Run, signs: &[u8]) {
+    let mut out = [0u8; 4096];
     let at = put_first(&mut out, input, signs);
-    run_behind(label, how, &mut out, at, signs, b"", 0, b"");
+    run_behind(rt, label, how, &mut out, at, signs, b"", 0, b"");
 }
 
-fn both(input: &[u8], label: &[u8], signs: &[u8]) {
+fn both<P: Print>(rt: &P, input: &[u8], label: &[u8], signs: &[u8]) {
     let slash = find(signs, 0, b'/');
     if signs.len() < slash {
         return;
     }
-    run_text(input, label, Run::Planner, &signs[0..slash]);
-    run_text(input, label, Run::Judge, signs);
+    run_text(rt, input, label, Run::Planner, &signs[0..slash]);
+    run_text(rt, input, label, Run::Judge, signs);
 }
 
-fn again(input: &[u8], label: &[u8], signs: &[u8]) {
+fn again<P: Print>(rt: &P, input: &[u8], label: &[u8], signs: &[u8]) {
     let first = find(signs, 0, b'[');
     if signs.len() <= first {
         return;
@@ -308,9 +304,10 @@ fn again(input: &[u8], label: &[u8], signs: &[u8]) {
     if signs.len() < second {
         return;
     }
-    let mut out = io::buffer();
+    let mut out = [0u8; 4096];
     let at = put_first(&mut out, input, signs);
     run_behind(
+        rt,
         label,
         Run::Judge,
         &mut out,
@@ -323,7 +320,14 @@ fn again(input: &[u8], label: &[u8], signs: &[u8]) {
 }
 
 // The case's label, and what three files get that are lent apart: they end at `start`, `middle` and `end`.
-fn run_apart(label: &[u8], bytes: &[u8], start: usize, middle: usize, end: usize) {
+fn run_apart<P: Print>(
+    rt: &P,
+    label: &[u8],
+    bytes: &[u8],
+    start: usize,
+    middle: usize,
+    end: usize,
+) {
     if middle < start {
         return;
     }
@@ -333,13 +337,19 @@ fn run_apart(label: &[u8], bytes: &[u8], start: usize, middle: usize, end: usize
     if bytes.len() < end {
         return;
     }
-    text(label);
-    text(b": ");
-    print_apart(&bytes[0..start], &bytes[start..middle], &bytes[middle..end]);
+    text(rt, label);
+    text(rt, b": ");
+    print_apart(
+        rt,
+        &bytes[0..start],
+        &bytes[start..middle],
+        &bytes[middle..end],
+    );
 }
 
 // Three texts behind what stands in the buffer, each as a file of its own.
-fn lend(
+fn lend<P: Print>(
+    rt: &P,
     label: &[u8],
     out: &mut [u8; 4096],
     at: usize,
@@ -350,20 +360,21 @@ fn lend(
     let start = put(out, at, network);
     let middle = put(out, start, first);
     let end = put(out, middle, second);
-    run_apart(label, out, start, middle, end);
+    run_apart(rt, label, out, start, middle, end);
 }
 
 // The text up to a slash, up to the next, and what follows.
-fn apart(input: &[u8], label: &[u8], signs: &[u8], first: usize, second: usize) {
+fn apart<P: Print>(rt: &P, input: &[u8], label: &[u8], signs: &[u8], first: usize, second: usize) {
     if second < first {
         return;
     }
     if signs.len() < second {
         return;
     }
-    let mut out = io::buffer();
+    let mut out = [0u8; 4096];
     let at = put_first(&mut out, input, signs);
     lend(
+        rt,
         label,
         &mut out,
         at,
@@ -373,17 +384,17 @@ fn apart(input: &[u8], label: &[u8], signs: &[u8], first: usize, second: usize) 
     );
 }
 
-fn finals(input: &[u8], label: &[u8], signs: &[u8]) {
+fn finals<P: Print>(rt: &P, input: &[u8], label: &[u8], signs: &[u8]) {
     let first = find(signs, 0, b'/');
     if signs.len() <= first {
         return;
     }
-    run_text(input, label, Run::Final, signs);
-    apart(input, label, signs, first, find(signs, first + 1, b'/'));
+    run_text(rt, input, label, Run::Final, signs);
+    apart(rt, input, label, signs, first, find(signs, first + 1, b'/'));
 }
 
 // A program that begins with a number, by what stands behind its dash.
-fn run_numbered(input: &[u8], label: &[u8], program: &[u8], signs: &[u8]) {
+fn run_numbered<P: Print>(rt: &P, input: &[u8], label: &[u8], program: &[u8], signs: &[u8]) {
     let n = number(program);
     let dash = find(program, 0, b'-');
     if program.len() < 2 {
@@ -393,34 +404,34 @@ fn run_numbered(input: &[u8], label: &[u8], program: &[u8], signs: &[u8]) {
         return;
     }
     match program[dash + 1] {
-        b'b' => run_text(input, label, Run::Into(n), signs),
-        b'p' => run_text(input, label, Run::PlanFrom(n), signs),
-        b'w' => run_text(input, label, Run::Write(n), signs),
+        b'b' => run_text(rt, input, label, Run::Into(n), signs),
+        b'p' => run_text(rt, input, label, Run::PlanFrom(n), signs),
+        b'w' => run_text(rt, input, label, Run::Write(n), signs),
         _ => {}
     }
 }
 
 // A case by its program's first letter.
-fn run_case(input: &[u8], label: &[u8], program: &[u8], signs: &[u8]) {
+fn run_case<P: Print>(rt: &P, input: &[u8], label: &[u8], program: &[u8], signs: &[u8]) {
     if program.len() < 1 {
         return;
     }
     match program[0] {
-        b'p' => run_text(input, label, Run::Planner, signs),
-        b'j' => run_text(input, label, Run::Judge, signs),
-        b'b' => both(input, label, signs),
-        b'a' => again(input, label, signs),
-        b'f' => finals(input, label, signs),
-        b'c' => run_text(input, label, Run::Cheapest, signs),
-        b'n' => run_text(input, label, Run::Network, signs),
-        b'i' => run_text(input, label, Run::Input, signs),
-        b'e' => run_text(input, label, Run::Entries, signs),
-        _ => run_numbered(input, label, program, signs),
+        b'p' => run_text(rt, input, label, Run::Planner, signs),
+        b'j' => run_text(rt, input, label, Run::Judge, signs),
+        b'b' => both(rt, input, label, signs),
+        b'a' => again(rt, input, label, signs),
+        b'f' => finals(rt, input, label, signs),
+        b'c' => run_text(rt, input, label, Run::Cheapest, signs),
+        b'n' => run_text(rt, input, label, Run::Network, signs),
+        b'i' => run_text(rt, input, label, Run::Input, signs),
+        b'e' => run_text(rt, input, label, Run::Entries, signs),
+        _ => run_numbered(rt, input, label, program, signs),
     }
 }
 
 // A line by the places of the blanks before and after its program.
-fn run_parts(input: &[u8], line: &[u8], before: usize, after: usize) {
+fn run_parts<P: Print>(rt: &P, input: &[u8], line: &[u8], before: usize, after: usize) {
     if line.len() < after {
         return;
     }
@@ -428,6 +439,7 @@ fn run_parts(input: &[u8], line: &[u8], before: usize, after: usize) {
         return;
     }
     run_case(
+        rt,
         input,
         &line[0..before],
         &line[before + 1..after],
@@ -435,7 +447,7 @@ fn run_parts(input: &[u8], line: &[u8], before: usize, after: usize) {
     );
 }
 
-fn run_line(input: &[u8], line: &[u8]) {
+fn run_line<P: Print>(rt: &P, input: &[u8], line: &[u8]) {
     if number(line) == 0 {
         return;
     }
@@ -443,10 +455,10 @@ fn run_line(input: &[u8], line: &[u8]) {
     if line.len() <= before {
         return;
     }
-    run_parts(input, line, before, find(line, before + 1, b' '));
+    run_parts(rt, input, line, before, find(line, before + 1, b' '));
 }
 
-fn run_lines(input: &[u8]) {
+fn run_lines<P: Print>(rt: &P, input: &[u8]) {
     let mut at: usize = 0;
     while at < input.len() {
         let end = find(input, at, b'\n');
@@ -456,13 +468,13 @@ fn run_lines(input: &[u8]) {
         if input.len() < end {
             return;
         }
-        run_line(input, &input[at..end]);
+        run_line(rt, input, &input[at..end]);
         at = end + 1;
     }
 }
 
-fn main() {
-    let mut input = io::large_buffer();
-    let got = io::read_full(STDIN_FILENO, &mut input);
-    run_lines(&input[..got]);
+fn main(rt: HostRuntime) {
+    let mut input = [0u8; 65536];
+    let got = streams::read_full(&mut rt.stdin(), &mut input);
+    run_lines(&rt, &input[..got]);
 }

@@ -110,10 +110,8 @@ pub fn put(out: &mut [u8; 4096], at: usize, signs: &[u8]) -> usize {
         number: 0,
         place: 0,
     };
-    let mut i: usize = 0;
-    while i < signs.len() {
-        text = with_sign(out, text, signs[i]);
-        i += 1;
+    for &sign in signs {
+        text = with_sign(out, text, sign);
     }
     let done = with_sign(out, text, b' ');
     done.length
@@ -122,10 +120,8 @@ pub fn put(out: &mut [u8; 4096], at: usize, signs: &[u8]) -> usize {
 // A text's bytes several times.
 pub fn put_times(out: &mut [u8; 4096], at: usize, signs: &[u8], times: usize) -> usize {
     let mut to = at;
-    let mut i: usize = 0;
-    while i < times {
+    for _ in 0..times {
         to = put(out, to, signs);
-        i += 1;
     }
     to
 }
@@ -133,14 +129,11 @@ pub fn put_times(out: &mut [u8; 4096], at: usize, signs: &[u8], times: usize) ->
 // The number at the front of a text.
 pub fn number(signs: &[u8]) -> usize {
     let mut n: usize = 0;
-    let mut i: usize = 0;
-    while i < signs.len() {
-        let sign = signs[i];
+    for &sign in signs {
         if !is_digit(sign) {
             return n;
         }
         n = with_digit(n, sign);
-        i += 1;
     }
     n
 }

@@ -9,51 +9,65 @@
 // the expected output (bench/src/finals/corpus.rs says what occurs in it), so that the gate holds the judge of finals to it.
 #![tactic(auto)]
 
+use std::io::Read;
 use test_parts::{MOST_ITEMS, NO_PART, next_count, next_part};
 use test_replies::{print_apart, print_final};
 
 // The first plan file begins at `start`, the second at `middle`.
-fn print_both(input: &[u8], start: usize, middle: usize) {
+fn print_both<P: Print>(rt: &P, input: &[u8], start: usize, middle: usize) {
     if middle < start {
         return;
     }
     if input.len() < middle {
         return;
     }
-    print_final(input);
-    print_apart(&input[0..start], &input[start..middle], &input[middle..]);
+    print_final(rt, input);
+    print_apart(
+        rt,
+        &input[0..start],
+        &input[start..middle],
+        &input[middle..],
+    );
 }
 
 // The pair that is next, behind a network part of the length given.
-fn hold_pair(buffer: &mut [u8], length: usize) {
-    let middle = next_part(buffer, length);
-    let end = next_part(buffer, middle);
+fn hold_pair<R: Read, P: Print>(from: &mut R, rt: &P, buffer: &mut [u8], length: usize) {
+    let middle = next_part(from, buffer, length);
+    let end = next_part(from, buffer, middle);
     if buffer.len() < end {
         return;
     }
-    print_both(&buffer[0..end], length, middle);
+    print_both(rt, &buffer[0..end], length, middle);
 }
 
-fn hold_all(buffer: &mut [u8], length: usize, pairs: usize) {
+fn hold_all<R: Read, P: Print>(
+    from: &mut R,
+    rt: &P,
+    buffer: &mut [u8],
+    length: usize,
+    pairs: usize,
+) {
     for _ in 0..pairs {
-        hold_pair(buffer, length);
+        hold_pair(from, rt, buffer, length);
     }
 }
 
 // The next item, if there is one.
-fn turn() -> bool {
+fn turn<R: Read, P: Print>(from: &mut R, rt: &P) -> bool {
     let mut buffer = streams::input_buffer();
-    let length = next_part(&mut buffer, 0);
+    let length = next_part(from, &mut buffer, 0);
     if length == NO_PART {
         return false;
     }
-    hold_all(&mut buffer, length, next_count());
+    let pairs = next_count(from);
+    hold_all(from, rt, &mut buffer, length, pairs);
     true
 }
 
-fn main() {
+fn main(rt: HostRuntime) {
+    let mut from = rt.stdin();
     for _ in 0..MOST_ITEMS {
-        if !turn() {
+        if !turn(&mut from, &rt) {
             return;
         }
     }

@@ -4,63 +4,62 @@
 use final_better::Part;
 use final_judge::Decided;
 use host_values::better_number;
-use libc::STDOUT_FILENO;
 use network::refusal::Answer;
 
-pub fn text(bytes: &[u8]) {
-    io::write_all(STDOUT_FILENO, bytes);
+// Bytes on standard output. A failure is not told: what is missing shows where the output is compared with the expected one.
+pub fn text<P: Print>(rt: &P, bytes: &[u8]) {
+    let _ = rt.write_all(bytes);
 }
 
 // A blank and a number.
-pub fn field(n: u64) {
-    text(b" ");
-    io::print_decimal(STDOUT_FILENO, n);
+pub fn field<P: Print>(rt: &P, n: u64) {
+    let _ = print!(rt; " {n}");
 }
 
 // The planner's lines for a network file.
-pub fn print_plan(input: &[u8]) {
-    let mut out = io::buffer();
+pub fn print_plan<P: Print>(rt: &P, input: &[u8]) {
+    let mut out = [0u8; 4096];
     let length = planner::plan_text(input, &mut out);
-    text(&out[..length]);
+    text(rt, &out[..length]);
 }
 
 // The judge's line for a network file with a plan file behind it.
-pub fn print_mark(input: &[u8]) {
-    let mut out = io::buffer();
+pub fn print_mark<P: Print>(rt: &P, input: &[u8]) {
+    let mut out = [0u8; 4096];
     let length = judge::mark_text(input, &mut out);
-    text(&out[..length]);
+    text(rt, &out[..length]);
 }
 
-fn print_part(part: Part) {
+fn print_part<P: Print>(rt: &P, part: Part) {
     let better = part.better;
-    text(b"PART");
-    field(better_number(better));
-    field(part.offset as u64);
-    field(part.length as u64);
-    text(b"\n");
+    text(rt, b"PART");
+    field(rt, better_number(better));
+    field(rt, part.offset as u64);
+    field(rt, part.length as u64);
+    text(rt, b"\n");
 }
 
 // PART, the better file, and offset and length of its part; nothing where the final is refused.
-fn print_decided(decided: Decided) {
+fn print_decided<P: Print>(rt: &P, decided: Decided) {
     let answer = decided.answer;
     match answer {
         Answer::Refused(_) => {}
-        Answer::Accepted => print_part(decided.part),
+        Answer::Accepted => print_part(rt, decided.part),
     }
 }
 
 // The lines for a network file with two plan files behind it, and the part, which the program `trial_final` does not print.
-pub fn print_final(input: &[u8]) {
-    let mut out = io::buffer();
+pub fn print_final<P: Print>(rt: &P, input: &[u8]) {
+    let mut out = [0u8; 4096];
     let length = final_judge::final_text(input, &mut out);
-    text(&out[..length]);
-    print_decided(final_judge::final_of(input));
+    text(rt, &out[..length]);
+    print_decided(rt, final_judge::final_of(input));
 }
 
 // The same of files lent apart, where the part's offset counts from the front of its own file.
-pub fn print_apart(network: &[u8], first: &[u8], second: &[u8]) {
-    let mut out = io::buffer();
+pub fn print_apart<P: Print>(rt: &P, network: &[u8], first: &[u8], second: &[u8]) {
+    let mut out = [0u8; 4096];
     let length = final_judge::files_text(network, first, second, &mut out);
-    text(&out[..length]);
-    print_decided(final_judge::final_of_files(network, first, second));
+    text(rt, &out[..length]);
+    print_decided(rt, final_judge::final_of_files(network, first, second));
 }
