@@ -1,4 +1,4 @@
--- The proof of the cycle of calls {decide, join, seek}: each return is a law of `Turns`.
+-- The proof of the cycle of calls {decide, join, seek}: each return is a law of `Cases`.
 -- The measure is three times the number of switches that may be left, for `join` one more than that behind its switch, and for `decide` two.
 use mathlib.Core.Path.{refl, sym, ◌∙◌}
 use Prim.Native.Nat.{◌+◌, ◌*◌, ◌-◌, ◌%◌, ℕ, ◌<◌}
