@@ -6,6 +6,8 @@ repository the folders of crates move too. Running it twice changes nothing the 
 
 For one crate, run at the repository's root, names that stand in another module by now are taken from there, where just one
 module has them or one of the same name, and its line for crates.txt is printed: the crates that it names.
+
+It reads files of before the port to today's Rattle, which name crates as Rattle·NAME: run it before port.py and respell.py.
 """
 import glob
 import os

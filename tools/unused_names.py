@@ -1,5 +1,5 @@
 #!/usr/bin/env python3
-"""unused_names.py FILE...: drop the names of `use M.{..}` lines that the file does not mention."""
+"""unused_names.py FILE...: drop the names of `use M.{..}` lines that the file does not mention. In a proved crate `rt tidy` does it."""
 import re
 import sys
 
@@ -18,7 +18,7 @@ for name in sys.argv[1:]:
         kept = []
         for used in (x.strip() for x in m[2].split(",")):
             base = used.split(" as ")[-1]
-            if base in tokens or (len(base) > 2 and base[0] == base[-1] == "_" and base.strip("_") in tokens):
+            if base in tokens or (len(base) > 2 and base[0] == base[-1] == "◌" and base.strip("◌") in tokens):
                 kept.append(used)
         if kept:
             out.append(m[1] + ", ".join(kept) + m[3])
