@@ -9,15 +9,16 @@ import re
 listed = {}
 for line in open("crates.txt"):
     if ":" in line and not line.startswith("#"):
-        name, below = line.split("#")[0].split(":")
+        name, below = line.split(":")
         listed[name.split()[0]] = set(below.split())
 for crate, below in listed.items():
     named = set()
-    for top, _, files in os.walk(os.path.join("crates", crate)):
+    for top, folders, files in os.walk(os.path.join("crates", crate)):
+        folders[:] = [folder for folder in folders if folder != "out"]
         for file in files:
             if file.endswith((".rt", ".antt", ".edit")):
                 text = open(os.path.join(top, file)).read()
-                named |= set(re.findall(r"\bRattle\.([a-z_]+)", text))
+                named |= set(re.findall(r"Rattle\.([a-z_]+)", text))
                 if file.endswith(".rt"):
                     named |= set(re.findall(r"(?<![\w:])([a-z_]+)::", text))
     named = (named & set(listed)) - {crate}

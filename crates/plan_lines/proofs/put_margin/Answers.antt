@@ -19,21 +19,21 @@ returns-in-Nowhere c =
 
 pub put_field-first-requires : goal.put_field-first-requires
 put_field-first-requires c =
-    let ow = c.in-At.known_told-1-own in let wf = c.well_formed in ?
+    let fit : SFits w64 c.in-At.m = record { sfits = c.in-At.known_told-1-own.given.1.0.1 } in
     let first = field_64 c.in-At.e (omega arith) in
     let second = signed_bits c.in-At.m fit in
     omega (arith, first)
 
 pub put_signed-second-requires : goal.put_signed-second-requires
 put_signed-second-requires c =
-    let fit : SFits w64 c.in-At.m = ? in
+    let fit : SFits w64 c.in-At.m = record { sfits = c.in-At.known_told-1-own.given.1.0.1 } in
     let first = field_64 c.in-At.e (omega arith) in
     let second = signed_bits c.in-At.m fit in
     omega (arith, first, second)
 
 pub put_feed-requires-in-At : goal.put_feed-requires-in-At
 put_feed-requires-in-At c =
-    let fit : SFits w64 c.in-At.m = ? in
+    let fit : SFits w64 c.in-At.m = record { sfits = c.in-At.known_told-1-own.given.1.0.1 } in
     let first = field_64 c.in-At.e (omega arith) in
     let second = signed_bits c.in-At.m fit in
     omega (arith, first, second)
@@ -41,7 +41,7 @@ put_feed-requires-in-At c =
 pub returns-in-At : goal.returns-in-At
 returns-in-At c =
     let a = c.args in
-    let fit : SFits w64 c.in-At.m = ? in
+    let fit : SFits w64 c.in-At.m = record { sfits = c.in-At.known_told-1-own.given.1.0.1 } in
     let first = field_64 c.in-At.e (omega arith) in
     let second = signed_bits c.in-At.m fit in
     let word = (both c.put_text-word.ensures.value c.put_text-word.ensures.out_after) in

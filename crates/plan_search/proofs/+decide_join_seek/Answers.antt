@@ -50,7 +50,7 @@ decide-seek-requires t c =
 
 pub decide-returns-then-fix-i : goal.decide-returns-then-fix-i
 decide-returns-then-fix-i t c = let the-args = c.args in
-    let pre· = (both c.requires.settled (both c.requires.seeks (both c.requires.placed (both c.requires.fed_le_i (both c.requires.light c.requires.best_len))))) in let whole = open_leaves (setting_in the-args.fix.now the-args.ends.now the-args.rate.now) pre·.0 the-args.on.now the-args.i the-args.fed the-args.set the-args.up.now the-args.has.now the-args.spare.now the-args.best.now (omega (arith, pre·.1.0.reached, pre·.0.fit)) c.seek.new.1.1.1.1.1.1.1.0 c.seek.new.1.1.1.0 c.seek.new.1.1.1.1.0 c.seek.new.1.1.1.1.1.0 c.seek.new.1.1.1.1.1.1.0 (omega arith) (both c.seek.ensures.best_after (both c.seek.ensures.best_len_2 (both c.seek.ensures.on_unchanged (both c.seek.ensures.up_unchanged (both c.seek.ensures.has_unchanged c.seek.ensures.spare_unchanged))))) in record { best_after = whole.0; best_len_2 = whole.1.0; on_unchanged = whole.1.1.0; up_unchanged = whole.1.1.1.0; has_unchanged = whole.1.1.1.1.0; spare_unchanged = whole.1.1.1.1.1 }
+    let pre· = (both c.requires.settled (both c.requires.seeks (both c.requires.placed (both c.requires.fed_le_i (both c.requires.light c.requires.best_len))))) in let whole = open_leaves (setting_in the-args.fix.now the-args.ends.now the-args.rate.now) pre·.0 the-args.on.now the-args.i the-args.fed the-args.set the-args.up.now the-args.has.now the-args.spare.now the-args.best.now (omega (arith, pre·.1.0.reached, pre·.0.fit)) c.seek.new.best c.seek.new.on c.seek.new.up c.seek.new.has c.seek.new.spare (omega arith) (both c.seek.ensures.best_after (both c.seek.ensures.best_len_2 (both c.seek.ensures.on_unchanged (both c.seek.ensures.up_unchanged (both c.seek.ensures.has_unchanged c.seek.ensures.spare_unchanged))))) in record { best_after = whole.0; best_len_2 = whole.1.0; on_unchanged = whole.1.1.0; up_unchanged = whole.1.1.1.0; has_unchanged = whole.1.1.1.1.0; spare_unchanged = whole.1.1.1.1.1 }
 
 pub decide-join-requires : goal.decide-join-requires
 decide-join-requires t c =
@@ -60,7 +60,7 @@ decide-join-requires t c =
 
 pub decide-returns : goal.decide-returns
 decide-returns t c = let the-args = c.args in
-    let pre· = (both c.requires.settled (both c.requires.seeks (both c.requires.placed (both c.requires.fed_le_i (both c.requires.light c.requires.best_len))))) in let whole = closed_leaves (setting_in the-args.fix.now the-args.ends.now the-args.rate.now) pre·.0 the-args.on.now the-args.i the-args.fed the-args.set the-args.up.now the-args.has.now the-args.spare.now the-args.best.now (omega (arith, pre·.1.0.reached, pre·.0.fit)) c.join.new.1.1.1.1.1.1.1.0 c.join.new.1.1.1.0 c.join.new.1.1.1.1.0 c.join.new.1.1.1.1.1.0 c.join.new.1.1.1.1.1.1.0 (omega arith) (both c.join.ensures.best_after (both c.join.ensures.best_len_2 (both c.join.ensures.on_unchanged (both c.join.ensures.up_unchanged (both c.join.ensures.has_unchanged c.join.ensures.spare_unchanged))))) in record { best_after = whole.0; best_len_2 = whole.1.0; on_unchanged = whole.1.1.0; up_unchanged = whole.1.1.1.0; has_unchanged = whole.1.1.1.1.0; spare_unchanged = whole.1.1.1.1.1 }
+    let pre· = (both c.requires.settled (both c.requires.seeks (both c.requires.placed (both c.requires.fed_le_i (both c.requires.light c.requires.best_len))))) in let whole = closed_leaves (setting_in the-args.fix.now the-args.ends.now the-args.rate.now) pre·.0 the-args.on.now the-args.i the-args.fed the-args.set the-args.up.now the-args.has.now the-args.spare.now the-args.best.now (omega (arith, pre·.1.0.reached, pre·.0.fit)) c.join.new.best c.join.new.on c.join.new.up c.join.new.has c.join.new.spare (omega arith) (both c.join.ensures.best_after (both c.join.ensures.best_len_2 (both c.join.ensures.on_unchanged (both c.join.ensures.up_unchanged (both c.join.ensures.has_unchanged c.join.ensures.spare_unchanged))))) in record { best_after = whole.0; best_len_2 = whole.1.0; on_unchanged = whole.1.1.0; up_unchanged = whole.1.1.1.0; has_unchanged = whole.1.1.1.1.0; spare_unchanged = whole.1.1.1.1.1 }
 
 pub join-offset_bounds-fix-i : goal.join-offset_bounds-fix-i
 join-offset_bounds-fix-i t c =
@@ -293,7 +293,7 @@ join-bounds-on-l-2 t c =
 
 pub join-returns : goal.join-returns
 join-returns t c = let the-args = c.args in
-    let pre· = (both c.requires.settled (both c.requires.seeks (both c.requires.placed (both c.requires.fed_le_i (both c.requires.light c.requires.best_len))))) in let whole = join_undone (setting_in the-args.fix.now the-args.ends.now the-args.rate.now) the-args.on.now the-args.i the-args.fed the-args.set the-args.up.now the-args.has.now the-args.spare.now the-args.best.now pre·.1.1.1.1.1 c.root-x.result c.root-y.result c.root-x.ensures c.root-y.ensures (omega (arith, c.if-x-y.false)) (sym c.clashing.ensures ∙ c.if-clashing.false) (not-false _ (sym c.overburdened.ensures ∙ c.if-overburdened.false)) c.lower-lo.result c.higher-hi.result c.held_together.result c.served_by.result c.carried_on.result c.lower-lo.ensures c.higher-hi.ensures c.held_together.ensures c.served_by.ensures c.carried_on.ensures pre·.0 the-args.cost pre·.1.0 pre·.1.1.0 (omega (arith, pre·.1.0.reached, pre·.0.fit)) c.seek.new.1.1.1.1.1.1.1.0 c.seek.new.1.1.1.0 c.seek.new.1.1.1.1.0 c.seek.new.1.1.1.1.1.0 c.seek.new.1.1.1.1.1.1.0 _ _ _ _ (omega arith) refl refl (omega arith) (both c.seek.ensures.best_after (both c.seek.ensures.best_len_2 (both c.seek.ensures.on_unchanged (both c.seek.ensures.up_unchanged (both c.seek.ensures.has_unchanged c.seek.ensures.spare_unchanged))))) in record { best_after = whole.0; best_len_2 = whole.1.0; on_unchanged = whole.1.1.0; up_unchanged = whole.1.1.1.0; has_unchanged = whole.1.1.1.1.0; spare_unchanged = whole.1.1.1.1.1 }
+    let pre· = (both c.requires.settled (both c.requires.seeks (both c.requires.placed (both c.requires.fed_le_i (both c.requires.light c.requires.best_len))))) in let whole = join_undone (setting_in the-args.fix.now the-args.ends.now the-args.rate.now) the-args.on.now the-args.i the-args.fed the-args.set the-args.up.now the-args.has.now the-args.spare.now the-args.best.now pre·.1.1.1.1.1 c.root-x.result c.root-y.result c.root-x.ensures c.root-y.ensures (omega (arith, c.if-x-y.false)) (sym c.clashing.ensures ∙ c.if-clashing.false) (not-false _ (sym c.overburdened.ensures ∙ c.if-overburdened.false)) c.lower-lo.result c.higher-hi.result c.held_together.result c.served_by.result c.carried_on.result c.lower-lo.ensures c.higher-hi.ensures c.held_together.ensures c.served_by.ensures c.carried_on.ensures pre·.0 the-args.cost pre·.1.0 pre·.1.1.0 (omega (arith, pre·.1.0.reached, pre·.0.fit)) c.seek.new.best c.seek.new.on c.seek.new.up c.seek.new.has c.seek.new.spare _ _ _ _ (omega arith) refl refl (omega arith) (both c.seek.ensures.best_after (both c.seek.ensures.best_len_2 (both c.seek.ensures.on_unchanged (both c.seek.ensures.up_unchanged (both c.seek.ensures.has_unchanged c.seek.ensures.spare_unchanged))))) in record { best_after = whole.0; best_len_2 = whole.1.0; on_unchanged = whole.1.1.0; up_unchanged = whole.1.1.1.0; has_unchanged = whole.1.1.1.1.0; spare_unchanged = whole.1.1.1.1.1 }
 
 pub seek-overflow_cast-left : goal.seek-overflow_cast-left
 seek-overflow_cast-left t c =
@@ -388,8 +388,8 @@ pub seek-decide-requires-2 : goal.seek-decide-requires-2
 seek-decide-requires-2 t c =
     let pre· = (both c.requires.settled (both c.requires.seeks (both c.requires.placed (both c.requires.light c.requires.best_len)))) in
     let the-args = c.args in
-    (omega (arith, pre·.0.fit), (pre·.0, (seeks_left (setting_in the-args.fix.now the-args.ends.now the-args.rate.now) pre·.0 the-args.up.now the-args.has.now the-args.i the-args.fed the-args.set the-args.cost pre·.1.0 c.decide.new.1.1.1.1.0 c.decide.new.1.1.1.1.1.0 _ (omega arith) (omega arith) c.decide.ensures.up_unchanged c.decide.ensures.has_unchanged, (placed_next (setting_in the-args.fix.now the-args.ends.now the-args.rate.now) the-args.on.now the-args.i the-args.set pre·.1.1.0 c.decide.new.1.1.1.0 _ c.decide.ensures.on_unchanged (omega arith), (pre·.1.0.served_few, (light_same the-args.spare.now the-args.i pre·.1.1.1.0 c.decide.new.1.1.1.1.1.1.0 c.decide.ensures.spare_unchanged, c.decide.ensures.best_len_2))))))
+    (omega (arith, pre·.0.fit), (pre·.0, (seeks_left (setting_in the-args.fix.now the-args.ends.now the-args.rate.now) pre·.0 the-args.up.now the-args.has.now the-args.i the-args.fed the-args.set the-args.cost pre·.1.0 c.decide.new.up c.decide.new.has _ (omega arith) (omega arith) c.decide.ensures.up_unchanged c.decide.ensures.has_unchanged, (placed_next (setting_in the-args.fix.now the-args.ends.now the-args.rate.now) the-args.on.now the-args.i the-args.set pre·.1.1.0 c.decide.new.on _ c.decide.ensures.on_unchanged (omega arith), (pre·.1.0.served_few, (light_same the-args.spare.now the-args.i pre·.1.1.1.0 c.decide.new.spare c.decide.ensures.spare_unchanged, c.decide.ensures.best_len_2))))))
 
 pub seek-returns : goal.seek-returns
 seek-returns t c = let the-args = c.args in
-    let pre· = (both c.requires.settled (both c.requires.seeks (both c.requires.placed (both c.requires.light c.requires.best_len)))) in let whole = both_leave (setting_in the-args.fix.now the-args.ends.now the-args.rate.now) the-args.on.now the-args.i the-args.fed the-args.set the-args.up.now the-args.has.now the-args.spare.now the-args.best.now pre·.1.1.1.1 pre·.1.0.reached (omega (arith, c.if-fed-left.false)) the-args.cost pre·.1.0.cost_is c.decide.new.1.1.1.1.1.1.1.0 c.decide-2.new.1.1.1.1.1.1.1.0 c.decide.new.1.1.1.0 c.decide-2.new.1.1.1.0 c.decide.new.1.1.1.1.0 c.decide-2.new.1.1.1.1.0 c.decide.new.1.1.1.1.1.0 c.decide-2.new.1.1.1.1.1.0 c.decide.new.1.1.1.1.1.1.0 c.decide-2.new.1.1.1.1.1.1.0 (omega (arith, c.if-best-cost.false)) (omega (arith, pre·.1.0.reached, c.if-left-eq0.false)) (both c.decide.ensures.best_after (both c.decide.ensures.best_len_2 (both c.decide.ensures.on_unchanged (both c.decide.ensures.up_unchanged (both c.decide.ensures.has_unchanged c.decide.ensures.spare_unchanged))))) (both c.decide-2.ensures.best_after (both c.decide-2.ensures.best_len_2 (both c.decide-2.ensures.on_unchanged (both c.decide-2.ensures.up_unchanged (both c.decide-2.ensures.has_unchanged c.decide-2.ensures.spare_unchanged))))) in record { best_after = whole.0; best_len_2 = whole.1.0; on_unchanged = whole.1.1.0; up_unchanged = whole.1.1.1.0; has_unchanged = whole.1.1.1.1.0; spare_unchanged = whole.1.1.1.1.1 }
+    let pre· = (both c.requires.settled (both c.requires.seeks (both c.requires.placed (both c.requires.light c.requires.best_len)))) in let whole = both_leave (setting_in the-args.fix.now the-args.ends.now the-args.rate.now) the-args.on.now the-args.i the-args.fed the-args.set the-args.up.now the-args.has.now the-args.spare.now the-args.best.now pre·.1.1.1.1 pre·.1.0.reached (omega (arith, c.if-fed-left.false)) the-args.cost pre·.1.0.cost_is c.decide.new.best c.decide-2.new.best c.decide.new.on c.decide-2.new.on c.decide.new.up c.decide-2.new.up c.decide.new.has c.decide-2.new.has c.decide.new.spare c.decide-2.new.spare (omega (arith, c.if-best-cost.false)) (omega (arith, pre·.1.0.reached, c.if-left-eq0.false)) (both c.decide.ensures.best_after (both c.decide.ensures.best_len_2 (both c.decide.ensures.on_unchanged (both c.decide.ensures.up_unchanged (both c.decide.ensures.has_unchanged c.decide.ensures.spare_unchanged))))) (both c.decide-2.ensures.best_after (both c.decide-2.ensures.best_len_2 (both c.decide-2.ensures.on_unchanged (both c.decide-2.ensures.up_unchanged (both c.decide-2.ensures.has_unchanged c.decide-2.ensures.spare_unchanged))))) in record { best_after = whole.0; best_len_2 = whole.1.0; on_unchanged = whole.1.1.0; up_unchanged = whole.1.1.1.0; has_unchanged = whole.1.1.1.1.0; spare_unchanged = whole.1.1.1.1.1 }

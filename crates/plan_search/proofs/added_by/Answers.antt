@@ -22,7 +22,7 @@ overflow_cast-fellows c =
 pub overflow_add-result : goal.overflow_add-result
 overflow_add-result c =
     let the-args = c.args in
-    omega (arith, c.type_inv.fixed (64 + the-args.i), c.type_inv.fixed (160 + the-args.i))
+    omega (arith, c.shared_slice_known-1.given (64 + the-args.i), c.shared_slice_known-2-1.given (160 + the-args.i))
 
 pub returns-then-chosen-eq0 : goal.returns-then-chosen-eq0
 unfolding adds_by charge_by

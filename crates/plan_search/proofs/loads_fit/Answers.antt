@@ -1,7 +1,6 @@
 -- `loads_fit` meets its contract. The loop's invariant: the walks from the first j sources fit.
 use Prim.Native.Nat.{◌-◌}
 use native.Mathlib.Omega.{arith}
-use borrow.Author.Tests.{not-true, not-false}
 use Rattle.plan_setting.specs.Setting.{setting_in}
 use Rattle.plan_search.proofs.Placing.{fits_none, fits_more, fits_not, fits_all}
 use Rattle.feeding.proofs.Pairs.{both}
@@ -53,7 +52,7 @@ pub returns-then-not-within_from : goal.returns-then-not-within_from
 returns-then-not-within_from c =
     let the-args = c.args in
     let loop· = c.loop-j in
-    fits_not (setting_in the-args.fix.now the-args.ends.now the-args.rate.now) the-args.on.now loop·.j c.within_from.result (omega arith) c.within_from.ensures (not-true _ c.if-not-within_from.true)
+    fits_not (setting_in the-args.fix.now the-args.ends.now the-args.rate.now) the-args.on.now loop·.j c.within_from.result (omega arith) c.within_from.ensures c.if-not-within_from.true
 
 pub overflow_add-j : goal.overflow_add-j
 overflow_add-j c =
@@ -64,7 +63,7 @@ pub loop-j-preserved : goal.loop-j-preserved
 loop-j-preserved c =
     let the-args = c.args in
     let loop· = c.loop-j in
-    (omega arith, fits_more (setting_in the-args.fix.now the-args.ends.now the-args.rate.now) the-args.on.now loop·.j c.within_from.result loop·.invariant.1 c.within_from.ensures (not-false _ c.if-not-within_from.false))
+    (omega arith, fits_more (setting_in the-args.fix.now the-args.ends.now the-args.rate.now) the-args.on.now loop·.j c.within_from.result loop·.invariant.1 c.within_from.ensures c.if-not-within_from.false)
 
 pub returns : goal.returns
 returns c =
