@@ -1,7 +1,7 @@
 -- Each way through the functions ends in the standing or mark that the definition gives. By the laws of `judge_marks`, and of the planner by `CheapestIn` alone.
 -- Assumes nothing.
 use mathlib.Core.Path.{◌≡◌, refl, sym, ap, ◌∙◌, subst}
-use mathlib.Core.Bool.{Bool, true, false, not, ◌||◌}
+use mathlib.Core.Bool.{Bool, true, false, ◌||◌}
 use mathlib.Core.List.{List}
 use Prim.Native.Nat.{ℕ, ◌<◌, ◌≤◌}
 use native.Mathlib.Omega.{arith}
@@ -83,29 +83,20 @@ second_asks one other r e h = e ∙ go (complete? one)
 
 -- ---- the cheapest cost, where it is asked for
 
--- the test of the code is `!asked`
-not-false : (a : Bool) → not a ≡ true → a ≡ false
-not-false true e = sym e
-not-false false e = refl
-
-not-true : (a : Bool) → not a ≡ false → a ≡ true
-not-true true e = refl
-not-true false e = sym e
-
 module _ (n : Network) (w : WellFormed n) (st : Starts (net_of n)) where
-  pub not_asked : (asked : Bool) → not asked ≡ true → 0 ≡ cost_asked (net_of n) asked
+  pub not_asked : (asked : Bool) → asked ≡ false → 0 ≡ cost_asked (net_of n) asked
   unfolding cost_asked
-  not_asked asked e = rw (not-false asked e)
+  not_asked asked e = rw e
 
-  module _ (asked : Bool) (is : not asked ≡ false) (r : Cheapest) (found : CheapestIn (net_of n) r) where
+  module _ (asked : Bool) (is : asked ≡ true) (r : Cheapest) (found : CheapestIn (net_of n) r) where
     pub asked_cost : (least : ℕ) → r ≡ Cheapest·.Cost least → (x : ℕ) → x ≡ least → x ≡ cost_asked (net_of n) asked
     unfolding cost_asked
     asked_cost least e x same =
-        rw (not-true asked is) (same ∙ cost_cheapest (net_of n) (formed_net n w) st.safe least (subst (CheapestIn (net_of n)) e found))
+        rw is (same ∙ cost_cheapest (net_of n) (formed_net n w) st.safe least (subst (CheapestIn (net_of n)) e found))
 
     pub asked_none : r ≡ Cheapest·.NoPlan → (x : ℕ) → x ≡ 0 → x ≡ cost_asked (net_of n) asked
     unfolding cost_asked
-    asked_none e x same = rw (not-true asked is) (same ∙ none_cheapest (net_of n) (formed_net n w) st.safe (subst (CheapestIn (net_of n)) e found))
+    asked_none e x same = rw is (same ∙ none_cheapest (net_of n) (formed_net n w) st.safe (subst (CheapestIn (net_of n)) e found))
 
     pub asked_refused : (f : Refusal) → r ≡ Cheapest·.Refused f → (x : ℕ) → x ≡ cost_asked (net_of n) asked
     asked_refused f e x = absurd (subst (CheapestIn (net_of n)) e found)

@@ -1,7 +1,7 @@
 // An input read to its end and a reply written, with each failure told on standard error.
 #![tactic(auto)]
 
-ghost use Rattle.std.specs.Prelude.{◌+◌, ◌<◌, ◌^◌, ◌≡◌, ◌≤◌, IfSome, length, take};
+ghost use Rattle.std.specs.Prelude.{◌+◌, ◌<◌, ◌^◌, ◌≡◌, IfSome, length, take};
 ghost use Rattle.file_network.specs.Deciding.{decides};
 ghost use Rattle.std.specs.Io.KnownBytes.{Consumes};
 ghost use Rattle.streams.specs.Streams.{input_after, Held, Grown, Ended, Brings, Shows, IsPrefixLen};

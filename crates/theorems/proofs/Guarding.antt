@@ -61,6 +61,7 @@ module _ (s : List ℕ) (E K : ℕ) where
       → FirstBreak s E K (replicate n Steps ++ (PlanEnd ∷ [])) at f → ⊥
   steps_unguarded zero eight after (here b) =
       eight_among_links _ PlanEnd _ eight after b (λ q. let z : ◌≡◌ {A = ℕ} 0 1 = cc in omega arith)
+  steps_unguarded zero {at = at} {f = f} eight after (later k x) = elim x [ ]
   steps_unguarded (suc n) eight after (here b) =
       eight_among_links _ Steps _ eight after b (λ q. let z : ◌≡◌ {A = ℕ} 0 1 = cc in omega arith)
   steps_unguarded (suc n) eight after (later k x) = steps_unguarded n eight after x

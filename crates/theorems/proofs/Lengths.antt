@@ -24,7 +24,7 @@ use Rattle.feeding.specs.Acceptance as Acceptance
 use Rattle.feeding.specs.Parts.{Config}
 use Rattle.feeding.specs.Restoration.{Operable, Operables, operable?, operables, operables_by, total_load}
 use Rattle.feeding.specs.Tasks.{most_operable, restoration}
-use Rattle.feeding.specs.Plans.{Step, Good, sweep, printed_form, run}
+use Rattle.feeding.specs.Plans.{Step, put, Good, sweep, printed_form, run}
 use Rattle.feeding.specs.Costs.{steps_cost, operated, cost_of}
 use Rattle.feeding.proofs.Guards.{guard_cost_below}
 use Rattle.feeding.proofs.Below.{gate_mono, gate_le}
@@ -183,7 +183,7 @@ module _ (n : Network) (w : WellFormed n) where
   steps_within : (c : Config) (q : List Step) → Good (net_of n) (Operable (net_of n)) c q → steps_cost (net_of n) q ≤ 65535 * length q
   unfolding Good steps_cost
   steps_within c [] g = omega arith
-  steps_within c (s ∷ q) g = omega (arith, cost_within s.link g.0.operable, steps_within _ q g.1)
+  steps_within c (s ∷ q) g = omega (arith, cost_within s.link g.0.operable, steps_within (put c s.link s.want) q g.1)
 
   -- and twice the cost of each of at most 96 guards
   costs_within : (c : Config) (q : List Step) → Good (net_of n) (Operable (net_of n)) c q → cost_of (net_of n) q ≤ 65535 * length q + 12582720
@@ -218,7 +218,7 @@ steps_length n w c (s ∷ q) g =
       arith,
       length-append (step_line s.link s.want) (step_texts q),
       step_length s.link s.want (omega (arith, g.0.operable.below, links_few n w)),
-      steps_length n w _ q g.1,
+      steps_length n w (put c s.link s.want) q g.1,
     )
 
 -- ---- the planner's text

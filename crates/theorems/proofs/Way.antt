@@ -16,7 +16,7 @@ use Rattle.theorems.specs.Words.{OnTheWay, Operates}
 good_front : (net : Net) (op : ℕ → Type 0) (c : Config) (p q : List Step) → Good net op c (p ++ q) → Good net op c p
 unfolding Good
 good_front net op c [] q g = tt
-good_front net op c (s ∷ p) q g = (g.0, good_front net op _ p q g.1)
+good_front net op c (s ∷ p) q g = (g.0, good_front net op (put c s.link s.want) p q g.1)
 
 pub valid_way : (net : Net) → Safe net.grid net.start_closed → (q : List Step) → ValidPlan net q → OnTheWay net q
 valid_way net start q valid = record {
