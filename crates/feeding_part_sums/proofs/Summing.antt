@@ -15,12 +15,12 @@ use Rattle.feeding_loads.proofs.Lending.{turn_start, turn_done, turn_below, turn
 use Rattle.feeding_loads.proofs.Lending.{element_load_in, link_load_in, link_turn_none, link_turn_load}
 use Rattle.feeding_walks.specs.Packing.{head_of, next_of, far_of}
 use Rattle.feeding_walks.proofs.Packed.{part_at}
-use Rattle.feeding_part_sums.specs.Sums.{sumGrid, endSum, SumLent}
+use Rattle.feeding_part_sums.specs.Sums.{sum_grid, end_sum, SumLent}
 
 -- the walk has come to the end j with this sum, whatever it met above a capacity
 record Summed (chain closed number : List ℕ) (E K d e via sum j : ℕ) : Type 0 where
   over : ℕ
-  walked : Walked (sumGrid E K chain number) (closed_in closed) d e via sum over j
+  walked : Walked (sum_grid E K chain number) (closed_in closed) d e via sum over j
 
 module _ {chain closed number : List ℕ} {E K : ℕ} (ok : SumLent chain closed number E K) (d e via : ℕ) where
   begun : e < E → Summed chain closed number E K d e via (at number e) (at chain e)
@@ -33,15 +33,15 @@ module _ {chain closed number : List ℕ} {E K : ℕ} (ok : SumLent chain closed
   pub head_read : e < E → at chain e ≤ 192
   head_read k = omega (arith, (ok.lent.heads e k).at_most, part_at 0 64 chain e e (omega (arith, ok.few)) (omega arith))
 
-  none_load : (depth : ℕ) → depth ≡ 0 → at number e ≡ element_load (sumGrid E K chain number) (closed_in closed) depth e via
+  none_load : (depth : ℕ) → depth ≡ 0 → at number e ≡ element_load (sum_grid E K chain number) (closed_in closed) depth e via
   unfolding walk_grid
-  none_load depth z = rw z (sym (load_none (sumGrid E K chain number) (closed_in closed) e via))
+  none_load depth z = rw z (sym (load_none (sum_grid E K chain number) (closed_in closed) e via))
 
   module _ (sum j : ℕ) (now : Summed chain closed number E K d e via sum j) where
-    done-load : (depth : ℕ) → 192 ≤ j → suc d ≡ depth → sum ≡ element_load (sumGrid E K chain number) (closed_in closed) depth e via
-    done-load depth k z = ap (λ (x : Carried). x.load)
+    done_load : (depth : ℕ) → 192 ≤ j → suc d ≡ depth → sum ≡ element_load (sum_grid E K chain number) (closed_in closed) depth e via
+    done_load depth k z = ap (λ (x : Carried). x.load)
         (turn_done (head_of chain) (next_of chain) (far_of chain) closed number number E K ok.lent d e via sum now.over j now.walked depth _ k z refl)
-        ∙ element_load_in (sumGrid E K chain number) (closed_in closed) depth e via
+        ∙ element_load_in (sum_grid E K chain number) (closed_in closed) depth e via
 
     module _ (k : j < 192) where
       below_all : j < 2 * K
@@ -53,8 +53,8 @@ module _ {chain closed number : List ℕ} {E K : ℕ} (ok : SumLent chain closed
       next_small : at chain (64 + j) ≤ 192
       next_small = omega (arith, (ok.lent.nexts j below_all).at_most, next_at_lem)
 
-      next-later : j < at chain (64 + j)
-      next-later = omega (
+      next_later : j < at chain (64 + j)
+      next_later = omega (
         arith,
         next_at_lem,
         turn_later (head_of chain) (next_of chain) (far_of chain) closed number number E K ok.lent d e via sum now.over j now.walked k,
@@ -67,29 +67,29 @@ module _ {chain closed number : List ℕ} {E K : ℕ} (ok : SumLent chain closed
             (turn_open (head_of chain) (next_of chain) (far_of chain) closed number number E K ok.lent d e via sum now.over j now.walked k sum' now.over h q refl);
       }
 
-      past-via : (sum' : ℕ) → j / 2 ≡ via → sum' ≡ sum → Summed chain closed number E K d e via sum' (at chain (64 + j))
-      past-via sum' h q = record {
+      past_via : (sum' : ℕ) → j / 2 ≡ via → sum' ≡ sum → Summed chain closed number E K d e via sum' (at chain (64 + j))
+      past_via sum' h q = record {
         over = now.over;
         walked = rw (← next_at_lem)
             (turn_via (head_of chain) (next_of chain) (far_of chain) closed number number E K ok.lent d e via sum now.over j now.walked k sum' now.over h q refl);
       }
 
       module _ (on : at closed (j / 2) ≡ 1) (ne : j / 2 ≡ via → ⊥) where
-        past-link : (x sum' : ℕ) → x ≡ link_load (sumGrid E K chain number) (closed_in closed) d (j / 2) (near_at (far_of chain) j) → sum' ≡ sum + x
+        past_link : (x sum' : ℕ) → x ≡ link_load (sum_grid E K chain number) (closed_in closed) d (j / 2) (near_at (far_of chain) j) → sum' ≡ sum + x
             → Summed chain closed number E K d e via sum' (at chain (64 + j))
         unfolding link_carried
-        past-link x sum' q s = record {
-          over = min now.over (link_over (sumGrid E K chain number) (closed_in closed) d (j / 2) (near_at (far_of chain) j));
+        past_link x sum' q s = record {
+          over = min now.over (link_over (sum_grid E K chain number) (closed_in closed) d (j / 2) (near_at (far_of chain) j));
           walked = rw (← next_at_lem)
               (turn_on (head_of chain) (next_of chain) (far_of chain) closed number number E K ok.lent d e via sum now.over j now.walked k
-              (record { load = x; over = link_over (sumGrid E K chain number) (closed_in closed) d (j / 2) (near_at (far_of chain) j) })
+              (record { load = x; over = link_over (sum_grid E K chain number) (closed_in closed) d (j / 2) (near_at (far_of chain) j) })
               sum' _ on ne (rw q) s refl);
         }
 
-        room-left : (depth : ℕ) → suc d ≡ depth
-            → sum + link_load (sumGrid E K chain number) (closed_in closed) d (j / 2) (near_at (far_of chain) j)
-            ≤ element_load (sumGrid E K chain number) (closed_in closed) depth e via
-        room-left depth z =
+        room_left : (depth : ℕ) → suc d ≡ depth
+            → sum + link_load (sum_grid E K chain number) (closed_in closed) d (j / 2) (near_at (far_of chain) j)
+            ≤ element_load (sum_grid E K chain number) (closed_in closed) depth e via
+        room_left depth z =
             turn_room (head_of chain) (next_of chain) (far_of chain) closed number number E K ok.lent d e via sum now.over j now.walked k depth z on ne
 
 -- ---- the link that waits
@@ -98,17 +98,17 @@ module _ {chain closed number : List ℕ} {E K : ℕ} (ok : SumLent chain closed
 pub record Held (chain closed number : List ℕ) (E K d e via before sum last j : ℕ) : Type 0 where
   met : ℕ
   summed : Summed chain closed number E K d e via met j
-  waits : before + met ≡ sum + endSum E K chain closed number d last
-  pub last-in : last < 192 → last < 2 * K
+  waits : before + met ≡ sum + end_sum E K chain closed number d last
+  pub last_in : last < 192 → last < 2 * K
 
-no_end : (E K : ℕ) (chain closed number : List ℕ) (d j : ℕ) → 192 ≤ j → endSum E K chain closed number d j ≡ 0
-unfolding endSum
-no_end E K chain closed number d j h = rw (le-ltb j 192 h, endSum)
+no_end : (E K : ℕ) (chain closed number : List ℕ) (d j : ℕ) → 192 ≤ j → end_sum E K chain closed number d j ≡ 0
+unfolding end_sum
+no_end E K chain closed number d j h = rw (le-ltb j 192 h, end_sum)
 
-an-end : (E K : ℕ) (chain closed number : List ℕ) (d j : ℕ) → j < 192
-    → endSum E K chain closed number d j ≡ link_load (sumGrid E K chain number) (closed_in closed) d (j / 2) (near_at (far_of chain) j)
-unfolding endSum
-an-end E K chain closed number d j h = rw (lt-ltb j 192 h, endSum)
+an_end : (E K : ℕ) (chain closed number : List ℕ) (d j : ℕ) → j < 192
+    → end_sum E K chain closed number d j ≡ link_load (sum_grid E K chain number) (closed_in closed) d (j / 2) (near_at (far_of chain) j)
+unfolding end_sum
+an_end E K chain closed number d j h = rw (lt-ltb j 192 h, end_sum)
 
 module _ {chain closed number : List ℕ} {E K : ℕ} (ok : SumLent chain closed number E K) (d e via before : ℕ) where
   pub begins : e < E → (sum : ℕ) → sum ≡ before + at number e → Held chain closed number E K d e via before sum 192 (at chain e)
@@ -116,23 +116,23 @@ module _ {chain closed number : List ℕ} {E K : ℕ} (ok : SumLent chain closed
     met = at number e;
     summed = begun ok d e via k;
     waits = omega (arith, q, no_end E K chain closed number d 192 (omega arith));
-    last-in = λ h. absurd (omega arith);
+    last_in = λ h. absurd (omega arith);
   }
 
-  pub own-fits : (depth : ℕ) → at number e ≤ element_load (sumGrid E K chain number) (closed_in closed) depth e via
+  pub own_fits : (depth : ℕ) → at number e ≤ element_load (sum_grid E K chain number) (closed_in closed) depth e via
   unfolding element_load walk_grid
-  own-fits zero = omega arith
-  own-fits (suc depth) = omega arith
+  own_fits zero = omega arith
+  own_fits (suc depth) = omega arith
 
   pub none : (depth sum : ℕ) → depth ≡ 0 → sum ≡ before + at number e
-      → sum ≡ before + element_load (sumGrid E K chain number) (closed_in closed) depth e via
+      → sum ≡ before + element_load (sum_grid E K chain number) (closed_in closed) depth e via
   none depth sum z q = omega (arith, q, none_load ok d e via depth z)
 
   module _ (sum last j : ℕ) (now : Held chain closed number E K d e via before sum last j) where
     -- the walk over the waiting link ends it
     pub done : (depth : ℕ) → 192 ≤ j → suc d ≡ depth
-        → sum + endSum E K chain closed number d last ≡ before + element_load (sumGrid E K chain number) (closed_in closed) depth e via
-    done depth k z = omega (arith, now.waits, done-load ok d e via now.met j now.summed depth k z)
+        → sum + end_sum E K chain closed number d last ≡ before + element_load (sum_grid E K chain number) (closed_in closed) depth e via
+    done depth k z = omega (arith, now.waits, done_load ok d e via now.met j now.summed depth k z)
 
     module _ (k : j < 192) where
       pub below : j < 2 * K
@@ -142,7 +142,7 @@ module _ {chain closed number : List ℕ} {E K : ℕ} (ok : SumLent chain closed
       next_read = next_small ok d e via now.met j now.summed k
 
       pub later : j < at chain (64 + j)
-      later = next-later ok d e via now.met j now.summed k
+      later = next_later ok d e via now.met j now.summed k
 
       pub opened : (sum' last' : ℕ) → (at closed (j / 2) ≡ 1 → ⊥) → sum' ≡ sum → last' ≡ last
           → Held chain closed number E K d e via before sum' last' (at chain (64 + j))
@@ -150,46 +150,46 @@ module _ {chain closed number : List ℕ} {E K : ℕ} (ok : SumLent chain closed
         met = now.met;
         summed = past_open ok d e via now.met j now.summed k now.met h refl;
         waits = now.waits;
-        last-in = now.last-in;
+        last_in = now.last_in;
       })
 
-      pub came-by : (sum' last' : ℕ) → j / 2 ≡ via → sum' ≡ sum → last' ≡ last
+      pub came_by : (sum' last' : ℕ) → j / 2 ≡ via → sum' ≡ sum → last' ≡ last
           → Held chain closed number E K d e via before sum' last' (at chain (64 + j))
-      came-by sum' last' h p q = rw (p, q) (record {
+      came_by sum' last' h p q = rw (p, q) (record {
         met = now.met;
-        summed = past-via ok d e via now.met j now.summed k now.met h refl;
+        summed = past_via ok d e via now.met j now.summed k now.met h refl;
         waits = now.waits;
-        last-in = now.last-in;
+        last_in = now.last_in;
       })
 
       module _ (on : at closed (j / 2) ≡ 1) (ne : j / 2 ≡ via → ⊥) where
         -- the link that waited has been walked, and this one waits
-        pub goes_on : (sum' last' : ℕ) → sum' ≡ sum + endSum E K chain closed number d last → last' ≡ j
+        pub goes_on : (sum' last' : ℕ) → sum' ≡ sum + end_sum E K chain closed number d last → last' ≡ j
             → Held chain closed number E K d e via before sum' last' (at chain (64 + j))
         goes_on sum' last' p q = rw q (record {
-          met = now.met + link_load (sumGrid E K chain number) (closed_in closed) d (j / 2) (near_at (far_of chain) j);
-          summed = past-link ok d e via now.met j now.summed k on ne _ _ refl refl;
-          waits = omega (arith, p, now.waits, an-end E K chain closed number d j k);
-          last-in = λ _. below;
+          met = now.met + link_load (sum_grid E K chain number) (closed_in closed) d (j / 2) (near_at (far_of chain) j);
+          summed = past_link ok d e via now.met j now.summed k on ne _ _ refl refl;
+          waits = omega (arith, p, now.waits, an_end E K chain closed number d j k);
+          last_in = λ _. below;
         })
 
         pub roomy : (depth : ℕ) → suc d ≡ depth
-            → sum + endSum E K chain closed number d last ≤ before + element_load (sumGrid E K chain number) (closed_in closed) depth e via
-        roomy depth z = omega (arith, now.waits, room-left ok d e via now.met j now.summed k on ne depth z)
+            → sum + end_sum E K chain closed number d last ≤ before + element_load (sum_grid E K chain number) (closed_in closed) depth e via
+        roomy depth z = omega (arith, now.waits, room_left ok d e via now.met j now.summed k on ne depth z)
 
 -- ---- the link of an end
 
 module _ {chain closed number : List ℕ} {E K : ℕ} (ok : SumLent chain closed number E K) where
-  pub link-no-end : (depth j before : ℕ) → 192 ≤ j → before ≡ before + endSum E K chain closed number depth j
-  link-no-end depth j before h = omega (arith, no_end E K chain closed number depth j h)
+  pub link_no_end : (depth j before : ℕ) → 192 ≤ j → before ≡ before + end_sum E K chain closed number depth j
+  link_no_end depth j before h = omega (arith, no_end E K chain closed number depth j h)
 
   module _ (j : ℕ) (h : j < 192) where
-    pub link_none : (depth before : ℕ) → depth ≡ 0 → before ≡ before + endSum E K chain closed number depth j
+    pub link_none : (depth before : ℕ) → depth ≡ 0 → before ≡ before + end_sum E K chain closed number depth j
     link_none depth before z = omega (
       arith,
-      an-end E K chain closed number depth j h,
+      an_end E K chain closed number depth j h,
       ap (λ (x : Carried). x.load) (link_turn_none (head_of chain) (next_of chain) (far_of chain) closed number number E K ok.lent depth (j / 2) (near_at (far_of chain) j) z)
-          ∙ link_load_in (sumGrid E K chain number) (closed_in closed) depth (j / 2) (near_at (far_of chain) j),
+          ∙ link_load_in (sum_grid E K chain number) (closed_in closed) depth (j / 2) (near_at (far_of chain) j),
     )
 
     module _ (k : j < 2 * K) where
@@ -200,7 +200,7 @@ module _ {chain closed number : List ℕ} {E K : ℕ} (ok : SumLent chain closed
       far_in = rw (← far_at_lem) (ok.lent.far_in j k)
 
       pub link_is : (d depth : ℕ) → suc d ≡ depth
-          → element_load (sumGrid E K chain number) (closed_in closed) d (at chain (256 + j)) (j / 2) ≡ endSum E K chain closed number depth j
+          → element_load (sum_grid E K chain number) (closed_in closed) d (at chain (256 + j)) (j / 2) ≡ end_sum E K chain closed number depth j
       link_is d depth z = rw (← far_at_lem)
           (link_turn_load (head_of chain) (next_of chain) (far_of chain) closed number number E K ok.lent d depth j z k)
-          ∙ sym (an-end E K chain closed number depth j h)
+          ∙ sym (an_end E K chain closed number depth j h)

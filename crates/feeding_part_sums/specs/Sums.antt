@@ -9,12 +9,12 @@ use Rattle.feeding_loads.specs.Walks.{walk_grid, near_at, Lent}
 use Rattle.feeding_walks.specs.Packing.{head_of, next_of, far_of}
 
 -- the numbers as own loads; no capacity enters the walk
-abbrev pub sumGrid : (E K : ℕ) (chain number : List ℕ) → Grid
-sumGrid E K chain number = walk_grid E K (far_of chain) number number
+abbrev pub sum_grid : (E K : ℕ) (chain number : List ℕ) → Grid
+sum_grid E K chain number = walk_grid E K (far_of chain) number number
 
 -- what lies ahead of the link of the end j, away from that end; nothing where j is no end
-unfoldable pub endSum : (E K : ℕ) (chain closed number : List ℕ) (depth j : ℕ) → ℕ
-endSum E K chain closed number d j = elim (ltb j 192) [ true ↦ link_load (sumGrid E K chain number) (closed_in closed) d (j / 2) (near_at (far_of chain) j) | false ↦ 0 ]
+unfoldable pub end_sum : (E K : ℕ) (chain closed number : List ℕ) (depth j : ℕ) → ℕ
+end_sum E K chain closed number d j = elim (ltb j 192) [ true ↦ link_load (sum_grid E K chain number) (closed_in closed) d (j / 2) (near_at (far_of chain) j) | false ↦ 0 ]
 
 -- the chains of ends skip no end of a closed link
 pub record SumLent (chain closed number : List ℕ) (E K : ℕ) : Type 0 where

@@ -4,7 +4,7 @@
 ghost use Rattle.std.specs.Prelude.{◌≡◌, ◌+◌, ◌<◌, ◌^◌, ◌*◌};
 ghost use Rattle.feeding.specs.Parts.{closed_in};
 ghost use Rattle.feeding.specs.Loads.{element_load};
-ghost use Rattle.feeding_part_sums.specs.Sums.{SumLent, sumGrid, endSum};
+ghost use Rattle.feeding_part_sums.specs.Sums.{SumLent, sum_grid, end_sum};
 
 // `before` and what lies ahead of e, come to over the link via, adds up to. The last link that leads on waits until no other does, and is walked by the
 // call that ends this one, which the compiler makes a jump.
@@ -22,8 +22,8 @@ pub fn element_sum<'a>(
 ) -> u64
     requires sum_lent { SumLent chain.now closed.now number.now elements links }
     requires e_lt_elements { e < elements }
-    requires via_bound { before + element_load (sumGrid elements links chain.now number.now) (closed_in closed.now) depth e via < 2 ^ 64 }
-    ensures { result ≡ before + element_load (sumGrid elements links chain.now number.now) (closed_in closed.now) depth e via }
+    requires via_bound { before + element_load (sum_grid elements links chain.now number.now) (closed_in closed.now) depth e via < 2 ^ 64 }
+    ensures { result ≡ before + element_load (sum_grid elements links chain.now number.now) (closed_in closed.now) depth e via }
 {
     let numbers: &[u32] = number;
     let own = numbers[e] as u64;
@@ -61,8 +61,8 @@ fn link_sum<'a>(
 ) -> u64
     requires sum_lent { SumLent chain.now closed.now number.now elements links }
     requires j_bound { j < 192 → j < 2 * links }
-    requires j_bound_2 { before + endSum elements links chain.now closed.now number.now depth j < 2 ^ 64 }
-    ensures { result ≡ before + endSum elements links chain.now closed.now number.now depth j }
+    requires j_bound_2 { before + end_sum elements links chain.now closed.now number.now depth j < 2 ^ 64 }
+    ensures { result ≡ before + end_sum elements links chain.now closed.now number.now depth j }
 {
     if j >= 192 {
         return before;

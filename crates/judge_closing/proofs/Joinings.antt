@@ -10,11 +10,11 @@ use native.Mathlib.Omega.{arith}
 use Rattle.feeding.specs.Parts.{closed_in}
 use Rattle.feeding.specs.Loads.{element_load, within_from?}
 use Rattle.feeding_walks.specs.Packing.{packed_grid}
-use Rattle.feeding_part_sums.specs.Sums.{sumGrid}
+use Rattle.feeding_part_sums.specs.Sums.{sum_grid}
 use Rattle.judge_safe_steps.specs.declared.Joining.{Joining}
 use Rattle.judge_safe_steps.specs.declared.Joining.TheVariants.{Clash, Dark, FedBy}
 use Rattle.judge_safe_steps.specs.Tests.{joining_of, joining_by, joined_safe}
-use Rattle.judge_closing.specs.Checks.{first_end, second_end, targeted, partSigns, joiningOver, closes_over, Joinable}
+use Rattle.judge_closing.specs.Checks.{first_end, second_end, targeted, part_signs, joining_over, closes_over, Joinable}
 
 -- ---- by the signs x and y of two parts
 
@@ -52,27 +52,27 @@ module _ (x y : ℕ) where
 
 module _ {chain closed sign : List ℕ} {E K l : ℕ} (ok : Joinable chain closed sign E K l) where
   -- what the walks are asked to be below
-  pub first_walk : 0 + element_load (sumGrid E K chain (targeted chain sign l)) (closed_in closed) (2 * E) (first_end chain l) K < 2 ^ 64
-  unfolding partSigns
+  pub first_walk : 0 + element_load (sum_grid E K chain (targeted chain sign l)) (closed_in closed) (2 * E) (first_end chain l) K < 2 ^ 64
+  unfolding part_signs
   first_walk = omega (arith, ok.first_fits)
 
-  pub second_walk : 0 + element_load (sumGrid E K chain (targeted chain sign l)) (closed_in closed) (2 * E) (second_end chain l) K < 2 ^ 64
-  unfolding partSigns
+  pub second_walk : 0 + element_load (sum_grid E K chain (targeted chain sign l)) (closed_in closed) (2 * E) (second_end chain l) K < 2 ^ 64
+  unfolding part_signs
   second_walk = omega (arith, ok.second_fits)
 
   pub walked : (first second : ℕ)
-      → first ≡ 0 + element_load (sumGrid E K chain (targeted chain sign l)) (closed_in closed) (2 * E) (first_end chain l) K
-      → second ≡ 0 + element_load (sumGrid E K chain (targeted chain sign l)) (closed_in closed) (2 * E) (second_end chain l) K
-      → (j : Joining) → j ≡ joining_of first second → j ≡ joiningOver E K chain closed sign l
-  unfolding joiningOver partSigns
+      → first ≡ 0 + element_load (sum_grid E K chain (targeted chain sign l)) (closed_in closed) (2 * E) (first_end chain l) K
+      → second ≡ 0 + element_load (sum_grid E K chain (targeted chain sign l)) (closed_in closed) (2 * E) (second_end chain l) K
+      → (j : Joining) → j ≡ joining_of first second → j ≡ joining_over E K chain closed sign l
+  unfolding joining_over part_signs
   walked first second first_is second_is j q =
-      let x : first ≡ partSigns E K chain (targeted chain sign l) (closed_in closed) (first_end chain l) = omega (arith, first_is) in
-      let y : second ≡ partSigns E K chain (targeted chain sign l) (closed_in closed) (second_end chain l) = omega (arith, second_is) in
+      let x : first ≡ part_signs E K chain (targeted chain sign l) (closed_in closed) (first_end chain l) = omega (arith, first_is) in
+      let y : second ≡ part_signs E K chain (targeted chain sign l) (closed_in closed) (second_end chain l) = omega (arith, second_is) in
       q ∙ ap₂ joining_of x y
 
 -- ---- the answer
 
-module _ (E K : ℕ) (chain closed sign rating : List ℕ) (l : ℕ) (j : Joining) (is : j ≡ joiningOver E K chain closed sign l) where
+module _ (E K : ℕ) (chain closed sign rating : List ℕ) (l : ℕ) (j : Joining) (is : j ≡ joining_over E K chain closed sign l) where
   pub clash_answer : j ≡ Clash → false ≡ closes_over E K chain closed sign rating l
   unfolding closes_over joined_safe
   clash_answer q = ap (joined_safe (within_from? (packed_grid E K chain rating) (closed_in (set closed l 1)))) (sym q ∙ is)

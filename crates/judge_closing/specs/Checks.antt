@@ -7,7 +7,7 @@ use Rattle.feeding.specs.Networks.{at}
 use Rattle.feeding.specs.Parts.{Config, closed_in}
 use Rattle.feeding.specs.Loads.{element_load, within_from?}
 use Rattle.feeding_walks.specs.Packing.{PackedLent, packed_grid}
-use Rattle.feeding_part_sums.specs.Sums.{SumLent, sumGrid}
+use Rattle.feeding_part_sums.specs.Sums.{SumLent, sum_grid}
 use Rattle.judge_safe_steps.specs.declared.Joining.{Joining}
 use Rattle.judge_safe_steps.specs.declared.Joining.TheVariants.{FedBy}
 use Rattle.judge_safe_steps.specs.Tests.{joining_of, joined_safe}
@@ -28,19 +28,19 @@ abbrev pub targeted : (chain sign : List ℕ) (l : ℕ) → List ℕ
 targeted chain sign l = set sign (second_end chain l) (at sign (second_end chain l) + 16384)
 
 -- the signs of the part of e
-unfoldable pub partSigns : (E K : ℕ) (chain sign : List ℕ) → Config → ℕ → ℕ
-partSigns E K chain sign c e = element_load (sumGrid E K chain sign) c (2 * E) e K
+unfoldable pub part_signs : (E K : ℕ) (chain sign : List ℕ) → Config → ℕ → ℕ
+part_signs E K chain sign c e = element_load (sum_grid E K chain sign) c (2 * E) e K
 
 -- what the parts of the two ends of the link l are found to be; closed[m] is 1 for a closed link
-unfoldable pub joiningOver : (E K : ℕ) (chain closed sign : List ℕ) (l : ℕ) → Joining
-joiningOver E K chain closed sign l =
-    joining_of (partSigns E K chain (targeted chain sign l) (closed_in closed) (first_end chain l))
-    (partSigns E K chain (targeted chain sign l) (closed_in closed) (second_end chain l))
+unfoldable pub joining_over : (E K : ℕ) (chain closed sign : List ℕ) (l : ℕ) → Joining
+joining_over E K chain closed sign l =
+    joining_of (part_signs E K chain (targeted chain sign l) (closed_in closed) (first_end chain l))
+    (part_signs E K chain (targeted chain sign l) (closed_in closed) (second_end chain l))
 
 -- closing the link l is safe
 unfoldable pub closes_over : (E K : ℕ) (chain closed sign rating : List ℕ) (l : ℕ) → Bool
 closes_over E K chain closed sign rating l =
-    joined_safe (within_from? (packed_grid E K chain rating) (closed_in (set closed l 1))) (joiningOver E K chain closed sign l)
+    joined_safe (within_from? (packed_grid E K chain rating) (closed_in (set closed l 1))) (joining_over E K chain closed sign l)
 
 -- the lists that `joining_at` is lent, for the link l
 pub record Joinable (chain closed sign : List ℕ) (E K l : ℕ) : Type 0 where
@@ -50,12 +50,12 @@ pub record Joinable (chain closed sign : List ℕ) (E K l : ℕ) : Type 0 where
   pub second_in : second_end chain l < E
   pub sign_fits : at sign (second_end chain l) + 16384 < 2 ^ 32
   pub before : SumLent chain closed (targeted chain sign l) E K
-  pub first_fits : partSigns E K chain (targeted chain sign l) (closed_in closed) (first_end chain l) < 2 ^ 64
-  pub second_fits : partSigns E K chain (targeted chain sign l) (closed_in closed) (second_end chain l) < 2 ^ 64
+  pub first_fits : part_signs E K chain (targeted chain sign l) (closed_in closed) (first_end chain l) < 2 ^ 64
+  pub second_fits : part_signs E K chain (targeted chain sign l) (closed_in closed) (second_end chain l) < 2 ^ 64
 
 -- and `closing_safe`
 pub record Closable (chain closed sign rating : List ℕ) (E K l : ℕ) : Type 0 where
   pub joinable : Joinable chain closed sign E K l
   pub after : PackedLent chain (set closed l 1) rating E K
   -- a source from which loads are asked is an element
-  pub fed_in : (s : ℕ) → joiningOver E K chain closed sign l ≡ FedBy s → s < E
+  pub fed_in : (s : ℕ) → joining_over E K chain closed sign l ≡ FedBy s → s < E

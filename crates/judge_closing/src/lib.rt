@@ -5,7 +5,7 @@ ghost use Rattle.std.specs.Prelude.{◌≡◌, length, set, ◌<◌};
 ghost use Rattle.feeding.specs.Below.{tabulate};
 ghost use Rattle.feeding.specs.Networks.{at};
 ghost use Rattle.judge_safe_steps.specs.Tests.{joining_of};
-ghost use Rattle.judge_closing.specs.Checks.{sign_of, joiningOver, closes_over, Joinable, Closable};
+ghost use Rattle.judge_closing.specs.Checks.{sign_of, joining_over, closes_over, Joinable, Closable};
 
 use feeding_capacity::within_from;
 use feeding_part_sums::element_sum;
@@ -82,7 +82,7 @@ fn joining_at<'a>(
     l: usize,
 ) -> Joining
     requires { Joinable chain.now closed.now sign.old elements links l }
-    ensures value { result ≡ joiningOver elements links chain.now closed.now sign.old l }
+    ensures value { result ≡ joining_over elements links chain.now closed.now sign.old l }
     ensures sign_unchanged { sign.new ≡ sign.old }
 {
     let a = chain[256 + 2 * l + 1] as usize;

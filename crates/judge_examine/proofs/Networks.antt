@@ -28,13 +28,13 @@ use Rattle.feeding_loads.specs.Walks.{walk_grid, ends_a, ends_b, Lent}
 use Rattle.feeding_loads.proofs.Same as Same
 use Rattle.feeding_walks.specs.Packing.{packed_ends, packed_rating, head_of, next_of, far_of, load_of, capacity_of, packed_grid}
 use Rattle.feeding_walks.proofs.Packed.{part_at, packed_head, packed_next, packed_far, packed_load, packed_capacity}
-use Rattle.feeding_part_sums.specs.Sums.{sumGrid}
+use Rattle.feeding_part_sums.specs.Sums.{sum_grid}
 use Rattle.feeding_restoration.proofs.Sets.{ones}
-use Rattle.judge_safe_steps.specs.Tests.{withLoads, partSum, sign_at, signs, Tells, joining_of, joined_safe, closes?}
+use Rattle.judge_safe_steps.specs.Tests.{with_loads, part_sum, sign_at, signs, Tells, joining_of, joined_safe, closes?}
 use Rattle.judge_safe_steps.specs.declared.Joining.TheVariants.{FedBy}
-use Rattle.judge_safe_steps.proofs.Signs.{with-formed, signs_tell, signs-below}
+use Rattle.judge_safe_steps.proofs.Signs.{with_formed, signs_tell, signs_below}
 use Rattle.judge_safe_steps.proofs.Tests.{fed_sound, joined_same}
-use Rattle.judge_closing.specs.Checks.{sign_of, first_end, second_end, targeted, partSigns, joiningOver, closes_over, Joinable, Closable}
+use Rattle.judge_closing.specs.Checks.{sign_of, first_end, second_end, targeted, part_signs, joining_over, closes_over, Joinable, Closable}
 use Rattle.judge_steps.proofs.Configurations.{set_put}
 
 -- what the examination makes once of a network
@@ -42,7 +42,7 @@ pub record Made (n : Network) (chain sign rating : List ℕ) : Type 0 where
   pub own : OwnEnds
   pub own_is : own ≡ own_ends (at n.from) (at n.to) (is_in (replicate 96 1)) n.links
   pub chain_is : chain ≡ packed_ends own
-  pub sign-is : sign ≡ tabulate 64 (λ x. sign_of (at n.flags x) x)
+  pub sign_is : sign ≡ tabulate 64 (λ x. sign_of (at n.flags x) x)
   pub rating_is : rating ≡ packed_rating n.load n.capacity
 
 module _ (n : Network) (w : WellFormed n) (chain sign rating : List ℕ) (made : Made n chain sign rating) where
@@ -72,14 +72,14 @@ module _ (n : Network) (w : WellFormed n) (chain sign rating : List ℕ) (made :
   capacity_is : capacity_of rating ≡ n.capacity
   capacity_is = ap capacity_of made.rating_is ∙ packed_capacity n.load n.capacity w.capacity_long
 
-  formed-with : (load capacity : List ℕ) → Formed (grid_of n.elements n.links load capacity n.flags n.from n.to)
+  formed_with : (load capacity : List ℕ) → Formed (grid_of n.elements n.links load capacity n.flags n.from n.to)
   unfolding grid_of
-  formed-with load capacity = record { end_a_lt = w.from_in; end_b_lt = w.to_in; differ = w.differ }
+  formed_with load capacity = record { end_a_lt = w.from_in; end_b_lt = w.to_in; differ = w.differ }
 
-  lent-with : (load capacity : List ℕ) → length load ≡ 64 → length capacity ≡ 64 → (states : List ℕ) → length states ≡ 96
+  lent_with : (load capacity : List ℕ) → length load ≡ 64 → length capacity ≡ 64 → (states : List ℕ) → length states ≡ 96
       → Lent (head_of chain) (next_of chain) (far_of chain) states load capacity n.elements n.links
-  lent-with load capacity long long' states long'' = rw (head_is, next_is, far_is)
-      (Same.lent n.elements n.links load capacity n.flags n.from n.to (formed-with load capacity) w.elements_fit w.links_fit
+  lent_with load capacity long long' states long'' = rw (head_is, next_is, far_is)
+      (Same.lent n.elements n.links load capacity n.flags n.from n.to (formed_with load capacity) w.elements_fit w.links_fit
       all made.own made.own_is states (λ l k _. ones l (omega (arith, w.links_fit))) (omega (arith, w.links_fit))
       (omega (arith, w.elements_fit)) (omega (arith, w.elements_fit)))
 
@@ -99,13 +99,13 @@ module _ (n : Network) (w : WellFormed n) (chain sign rating : List ℕ) (made :
 
   -- ---- the signs
 
-  sign-long : length sign ≡ 64
-  sign-long = ap length made.sign-is ∙ length_tabulate 64 _
+  sign_long : length sign ≡ 64
+  sign_long = ap length made.sign_is ∙ length_tabulate 64 _
 
   sign_at_lem : (x : ℕ) → x < n.elements → at sign x ≡ gate (sound? g x) (suc x) + gate (g.faulty x) 128
   unfolding net_of grid_of sound? sign_of
   sign_at_lem x k =
-      ap (λ (xs : List ℕ). at xs x) made.sign-is ∙ at_tabulate 64 (λ y. sign_of (at n.flags y) y) x (omega (arith, w.elements_fit))
+      ap (λ (xs : List ℕ). at xs x) made.sign_is ∙ at_tabulate 64 (λ y. sign_of (at n.flags y) y) x (omega (arith, w.elements_fit))
       ∙ ap (λ (b : Bool). gate b (suc x) + gate (is_faulty (at n.flags x)) 128) (sound_flag (at n.flags x))
 
   module _ (l : ℕ) (k : l < n.links) where
@@ -115,9 +115,9 @@ module _ (n : Network) (w : WellFormed n) (chain sign rating : List ℕ) (made :
     second_lt : second_end chain l < n.elements
     second_lt = rw (second_end_lem l k) (w.to_in l k)
 
-    aimed-at : (x : ℕ) → x < n.elements → at aimed x ≡ sign_at g (g.end_b l) x
+    aimed_at : (x : ℕ) → x < n.elements → at aimed x ≡ sign_at g (g.end_b l) x
     unfolding net_of grid_of sign_at
-    aimed-at x kx = go (eqb x (at n.to l)) refl
+    aimed_at x kx = go (eqb x (at n.to l)) refl
       where
         m : ℕ
         m = second_end chain l
@@ -129,7 +129,7 @@ module _ (n : Network) (w : WellFormed n) (chain sign rating : List ℕ) (made :
             omega (
               arith,
               ap (at aimed) same,
-              get_or-set_same sign m (at sign m + 16384) 0 (omega (arith, sign-long, second_lt, w.elements_fit)),
+              get_or-set_same sign m (at sign m + 16384) 0 (omega (arith, sign_long, second_lt, w.elements_fit)),
               ap (at sign) same,
               sign_at_lem x kx,
             )
@@ -138,18 +138,18 @@ module _ (n : Network) (w : WellFormed n) (chain sign rating : List ℕ) (made :
             ∙ omega (arith, sign_at_lem x kx)
 
     -- the walk of signs over the lists is that over the grid
-    signs-is : (c : Config) (e : ℕ) → e < n.elements
-        → partSigns n.elements n.links chain aimed c e ≡ signs g c (g.end_b l) e
-    unfolding partSigns signs partSum withLoads walk_grid net_of grid_of
-    signs-is c e ke = sym (element_load_alike (withLoads g (sign_at g (g.end_b l))) (sumGrid n.elements n.links chain aimed)
-        (with-formed g (sign_at g (g.end_b l)) (formed_net n w)) alike c c (λ _ _. refl) (2 * n.elements) e n.links ke)
+    signs_is : (c : Config) (e : ℕ) → e < n.elements
+        → part_signs n.elements n.links chain aimed c e ≡ signs g c (g.end_b l) e
+    unfolding part_signs signs part_sum with_loads walk_grid net_of grid_of
+    signs_is c e ke = sym (element_load_alike (with_loads g (sign_at g (g.end_b l))) (sum_grid n.elements n.links chain aimed)
+        (with_formed g (sign_at g (g.end_b l)) (formed_net n w)) alike c c (λ _ _. refl) (2 * n.elements) e n.links ke)
       where
-        alike : Alike (withLoads g (sign_at g (g.end_b l))) (sumGrid n.elements n.links chain aimed)
+        alike : Alike (with_loads g (sign_at g (g.end_b l))) (sum_grid n.elements n.links chain aimed)
         alike = record {
           elements = refl;
           links = refl;
-          loads = λ x kx. sym (aimed-at x kx);
-          capacities = λ x kx. sym (aimed-at x kx);
+          loads = λ x kx. sym (aimed_at x kx);
+          capacities = λ x kx. sym (aimed_at x kx);
           ends_a_lem = λ m km. sym (ends_a_lem m km);
           ends_b_lem = λ m km. sym (ends_b_lem m km);
         }
@@ -166,15 +166,15 @@ module _ (n : Network) (w : WellFormed n) (chain sign rating : List ℕ) (made :
       second : ℕ
       second = signs g c (g.end_b l) (g.end_b l)
 
-      first_is : partSigns n.elements n.links chain aimed (closed_in closed) (first_end chain l) ≡ first
+      first_is : part_signs n.elements n.links chain aimed (closed_in closed) (first_end chain l) ≡ first
       unfolding first net_of grid_of
-      first_is = ap (partSigns n.elements n.links chain aimed (closed_in closed)) (first_end_lem l k)
-          ∙ signs-is (closed_in closed) (at n.from l) (w.from_in l k)
+      first_is = ap (part_signs n.elements n.links chain aimed (closed_in closed)) (first_end_lem l k)
+          ∙ signs_is (closed_in closed) (at n.from l) (w.from_in l k)
 
-      second_is : partSigns n.elements n.links chain aimed (closed_in closed) (second_end chain l) ≡ second
+      second_is : part_signs n.elements n.links chain aimed (closed_in closed) (second_end chain l) ≡ second
       unfolding second net_of grid_of
-      second_is = ap (partSigns n.elements n.links chain aimed (closed_in closed)) (second_end_lem l k)
-          ∙ signs-is (closed_in closed) (at n.to l) (w.to_in l k)
+      second_is = ap (part_signs n.elements n.links chain aimed (closed_in closed)) (second_end_lem l k)
+          ∙ signs_is (closed_in closed) (at n.to l) (w.to_in l k)
 
       formed : Formed g
       formed = formed_net n w
@@ -189,17 +189,17 @@ module _ (n : Network) (w : WellFormed n) (chain sign rating : List ℕ) (made :
 
       first_below : first < 32768
       unfolding first net_of grid_of
-      first_below = signs-below g formed w.elements_fit c safe (g.end_b l) (g.end_a l) (w.to_in l k) (w.from_in l k)
+      first_below = signs_below g formed w.elements_fit c safe (g.end_b l) (g.end_a l) (w.to_in l k) (w.from_in l k)
 
       second_below : second < 32768
       unfolding second net_of grid_of
-      second_below = signs-below g formed w.elements_fit c safe (g.end_b l) (g.end_b l) (w.to_in l k) (w.to_in l k)
+      second_below = signs_below g formed w.elements_fit c safe (g.end_b l) (g.end_b l) (w.to_in l k) (w.to_in l k)
 
       puts : closed_in (set closed l 1) ≡ put c l true
       puts = set_put closed l true (omega (arith, w.links_fit))
 
-      joining_is : joiningOver n.elements n.links chain closed sign l ≡ joining_of first second
-      unfolding joiningOver
+      joining_is : joining_over n.elements n.links chain closed sign l ≡ joining_of first second
+      unfolding joining_over
       joining_is = ap₂ joining_of first_is second_is
 
       source_below : (s : ℕ) → joining_of first second ≡ FedBy s → s < n.elements
@@ -220,18 +220,18 @@ module _ (n : Network) (w : WellFormed n) (chain sign rating : List ℕ) (made :
           second_lt,
           w.elements_fit,
         );
-        before = record { few = w.elements_fit; lent = lent-with aimed aimed aimed-long aimed-long closed long };
+        before = record { few = w.elements_fit; lent = lent_with aimed aimed aimed_long aimed_long closed long };
         first_fits = omega (arith, first_is, first_below);
         second_fits = omega (arith, second_is, second_below);
       }
         where
-          aimed-long : length aimed ≡ 64
-          aimed-long = length-set sign (second_end chain l) (at sign (second_end chain l) + 16384) ∙ sign-long
+          aimed_long : length aimed ≡ 64
+          aimed_long = length-set sign (second_end chain l) (at sign (second_end chain l) + 16384) ∙ sign_long
 
       pub closable : Closable chain closed sign rating n.elements n.links l
       closable = record {
         joinable = joinable;
-        after = rw (load_is, capacity_is) (lent-with n.load n.capacity w.load_long w.capacity_long (set closed l 1) (length-set closed l 1 ∙ long));
+        after = rw (load_is, capacity_is) (lent_with n.load n.capacity w.load_long w.capacity_long (set closed l 1) (length-set closed l 1 ∙ long));
         fed_in = λ s q. source_below s (sym joining_is ∙ q);
       }
 
@@ -252,6 +252,6 @@ module _ (n : Network) (w : WellFormed n) (chain sign rating : List ℕ) (made :
           same s is =
               ap₂ (λ (load capacity : List ℕ). within_from? (walk_grid n.elements n.links (far_of chain) load capacity) (closed_in (set closed l 1)) s) load_is capacity_is
               ∙ ap (λ (x : ℕ). not (ltb x n.elements))
-              (Same.element_over_is n.elements n.links n.load n.capacity n.flags n.from n.to (formed-with n.load n.capacity)
+              (Same.element_over_is n.elements n.links n.load n.capacity n.flags n.from n.to (formed_with n.load n.capacity)
               w.elements_fit w.links_fit (far_of chain) ends_a_lem ends_b_lem (closed_in (set closed l 1)) (2 * n.elements) s n.links
               (source_below s is))

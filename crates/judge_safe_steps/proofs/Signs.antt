@@ -19,54 +19,54 @@ use Rattle.feeding.proofs.Labels.{joined?_sound, joined?_complete, labels_ext}
 use Rattle.feeding.proofs.Sums.{sum_to_no, sum_to_more, sum_to_ext, sum_to_add, sum_to_at, sum_to_only, sum_to_zero, sum_to_term, sum_to_below}
 use Rattle.feeding.proofs.Tests.{sound?_in, sound?_out, live?_in, live?_out}
 use Rattle.feeding.proofs.Walk.{start}
-use Rattle.judge_safe_steps.specs.Tests.{withLoads, partSum, sign_at, signs, Tells}
+use Rattle.judge_safe_steps.specs.Tests.{with_loads, part_sum, sign_at, signs, Tells}
 
 -- ---- other own loads
 
 module _ (g : Grid) (w : ℕ → ℕ) where
-  pub with-formed : Formed g → Formed (withLoads g w)
-  unfolding withLoads
-  with-formed f = record { end_a_lt = f.end_a_lt; end_b_lt = f.end_b_lt; differ = f.differ }
+  pub with_formed : Formed g → Formed (with_loads g w)
+  unfolding with_loads
+  with_formed f = record { end_a_lt = f.end_a_lt; end_b_lt = f.end_b_lt; differ = f.differ }
 
-  with-joined : (c : Config) {d a : ℕ} → Joined (withLoads g w) c d a → Joined g c d a
-  unfolding withLoads touches far
-  with-joined c here = here
-  with-joined c (over l k h t j) = over l k h t (with-joined c j)
+  with_joined : (c : Config) {d a : ℕ} → Joined (with_loads g w) c d a → Joined g c d a
+  unfolding with_loads touches far
+  with_joined c here = here
+  with_joined c (over l k h t j) = over l k h t (with_joined c j)
 
-  with-bridges : (c : Config) → Bridges g c → Bridges (withLoads g w) c
-  unfolding withLoads
-  with-bridges c bridges l k h j = bridges l k h (with-joined (without c l) j)
+  with_bridges : (c : Config) → Bridges g c → Bridges (with_loads g w) c
+  unfolding with_loads
+  with_bridges c bridges l k h j = bridges l k h (with_joined (without c l) j)
 
-  with-parts : (c : Config) (d a : ℕ) → joined? (withLoads g w) c d a ≡ joined? g c d a
-  unfolding withLoads joined? label
-  with-parts c d a = refl
+  with_parts : (c : Config) (d a : ℕ) → joined? (with_loads g w) c d a ≡ joined? g c d a
+  unfolding with_loads joined? label
+  with_parts c d a = refl
 
 -- without the link K, which is none, everything is joined as before
-none-without : (g : Grid) (c : Config) (d a : ℕ) → joined? g (without c g.K) d a ≡ joined? g c d a
+none_without : (g : Grid) (c : Config) (d a : ℕ) → joined? g (without c g.K) d a ≡ joined? g c d a
 unfolding joined? label
-none-without g c d a = ap (λ (ls : List ℕ). eqb (at ls a) (at ls d))
+none_without g c d a = ap (λ (ls : List ℕ). eqb (at ls a) (at ls d))
     (labels_ext g.E g.end_a g.end_a g.end_b g.end_b (without c g.K) c g.K (λ _ _. refl) (λ _ _. refl)
     (λ l k. same_test _ _ (without_on c g.K l) (λ h. without_in c g.K l h (λ q. omega arith))))
 
 -- the walk from e adds up w over the part of e, each element once
-pub part-sum : (g : Grid) → Formed g → (w : ℕ → ℕ) (c : Config) → Bridges g c → (e : ℕ) → e < g.E
-    → partSum g w c e ≡ sum_to g.E (λ x. gate (joined? g c x e) (w x))
-unfolding partSum withLoads
-part-sum g formed w c bridges e k =
-    load_hanging (withLoads g w) (with-formed g w formed) c (with-bridges g w c bridges) e g.K k (start refl)
-    ∙ sum_to_ext g.E _ _ (λ x _. ap (λ (b : Bool). gate b (w x)) (with-parts g w (without c g.K) x e ∙ none-without g c x e))
+pub part_sum_lem : (g : Grid) → Formed g → (w : ℕ → ℕ) (c : Config) → Bridges g c → (e : ℕ) → e < g.E
+    → part_sum g w c e ≡ sum_to g.E (λ x. gate (joined? g c x e) (w x))
+unfolding part_sum with_loads
+part_sum_lem g formed w c bridges e k =
+    load_hanging (with_loads g w) (with_formed g w formed) c (with_bridges g w c bridges) e g.K k (start refl)
+    ∙ sum_to_ext g.E _ _ (λ x _. ap (λ (b : Bool). gate b (w x)) (with_parts g w (without c g.K) x e ∙ none_without g c x e))
 
 -- ---- values under conditions
 
-gate-three : (b : Bool) (x y z : ℕ) → gate b (x + (y + z)) ≡ gate b x + (gate b y + gate b z)
-gate-three true x y z = refl
-gate-three false x y z = omega arith
+gate_three : (b : Bool) (x y z : ℕ) → gate b (x + (y + z)) ≡ gate b x + (gate b y + gate b z)
+gate_three true x y z = refl
+gate_three false x y z = omega arith
 
-gates-swap : (a b : Bool) (x : ℕ) → gate a (gate b x) ≡ gate b (gate a x)
-gates-swap true true x = refl
-gates-swap true false x = refl
-gates-swap false true x = refl
-gates-swap false false x = refl
+gates_swap : (a b : Bool) (x : ℕ) → gate a (gate b x) ≡ gate b (gate a x)
+gates_swap true true x = refl
+gates_swap true false x = refl
+gates_swap false true x = refl
+gates_swap false false x = refl
 
 gates_128 : (a b : Bool) → gate a (gate b 128) ≡ 128 * gate (b && a) 1
 gates_128 true true = omega arith
@@ -100,8 +100,8 @@ module _ (g : Grid) (formed : Formed g) (few : g.E ≤ 64) (c : Config) (safe : 
   signs_sum : signs g c m e ≡ source_sum + (128 * fault_count + gate (part m) 16384)
   unfolding signs sign_at source_sum fault_count part
   signs_sum =
-      part-sum g formed (sign_at g m) c (safe_bridges g formed c safe.tree) e k
-      ∙ sum_to_ext g.E _ _ (λ x _. gate-three (part x) (gate (sound? g x) (suc x)) (gate (g.faulty x) 128) (gate (eqb x m) 16384))
+      part_sum_lem g formed (sign_at g m) c (safe_bridges g formed c safe.tree) e k
+      ∙ sum_to_ext g.E _ _ (λ x _. gate_three (part x) (gate (sound? g x) (suc x)) (gate (g.faulty x) 128) (gate (eqb x m) 16384))
       ∙ sum_to_add g.E (λ x. gate (part x) (gate (sound? g x) (suc x))) (λ x. gate (part x) (gate (g.faulty x) 128) + gate (part x) (gate (eqb x m) 16384))
       ∙ ap (λ (z : ℕ). source_sum + z)
       (sum_to_add g.E (λ x. gate (part x) (gate (g.faulty x) 128)) (λ x. gate (part x) (gate (eqb x m) 16384)) ∙ ap₂ ◌+◌ faults target)
@@ -110,7 +110,7 @@ module _ (g : Grid) (formed : Formed g) (few : g.E ≤ 64) (c : Config) (safe : 
       faults = sum_to_ext g.E _ _ (λ x _. gates_128 (part x) (g.faulty x)) ∙ sum_to_128 g.E (λ x. gate (g.faulty x && part x) 1)
 
       target : sum_to g.E (λ x. gate (part x) (gate (eqb x m) 16384)) ≡ gate (part m) 16384
-      target = sum_to_ext g.E _ _ (λ x _. gates-swap (part x) (eqb x m) 16384) ∙ sum_to_at (λ x. gate (part x) 16384) m g.E ∙ rw (lt-ltb m g.E km)
+      target = sum_to_ext g.E _ _ (λ x _. gates_swap (part x) (eqb x m) 16384) ∙ sum_to_at (λ x. gate (part x) 16384) m g.E ∙ rw (lt-ltb m g.E km)
 
   faults_few : fault_count ≤ 64
   unfolding fault_count
@@ -180,8 +180,8 @@ module _ (g : Grid) (formed : Formed g) (few : g.E ≤ 64) (c : Config) (safe : 
 
   -- ---- what the sum tells
 
-  pub signs-below : signs g c m e < 32768
-  signs-below = omega (arith, signs_sum, source_few, faults_few, gate_le (part m) 16384)
+  pub signs_below : signs g c m e < 32768
+  signs_below = omega (arith, signs_sum, source_few, faults_few, gate_le (part m) 16384)
 
   source_part : signs g c m e % 128 ≡ source_sum
   source_part = go (part m) refl
@@ -199,8 +199,8 @@ module _ (g : Grid) (formed : Formed g) (few : g.E ≤ 64) (c : Config) (safe : 
 
   pub signs_tell : Tells g c m e (signs g c m e)
   signs_tell = record {
-    target-in = λ j. ap not (le-ltb (signs g c m e) 16384 (omega (arith, rw (part_in m j) at signs_sum)));
-    target-out = λ h. target (part m) refl (ltb-false (signs g c m e) 16384 (not-true _ h));
+    target_in = λ j. ap not (le-ltb (signs g c m e) 16384 (omega (arith, rw (part_in m j) at signs_sum)));
+    target_out = λ h. target (part m) refl (ltb-false (signs g c m e) 16384 (not-true _ h));
     faulty_in = λ x kx f j. ap not (ne_eqb (signs g c m e / 128 % 128) 0 (λ z. omega (arith, fault_part, faults_in x kx f j)));
     faulty_out = λ h. faults_out (omega (arith, fault_part, eqb-false (signs g c m e / 128 % 128) 0 (not-true _ h)));
     sound_in = λ s p j. (ap not (ne_eqb (signs g c m e % 128) 0 (λ z. omega (arith, source_part, source_is s p j))), omega (arith, source_part, source_is s p j));

@@ -20,7 +20,7 @@ use Rattle.plan_stops.proofs.Radial.{Radial}
 use Rattle.judge_safe_steps.specs.declared.Joining.{Joining}
 use Rattle.judge_safe_steps.specs.declared.Joining.TheVariants.{Clash, Dark, FedBy}
 use Rattle.judge_safe_steps.specs.Closing.{Beside, Joins, Closes}
-use Rattle.judge_safe_steps.specs.Tests.{signs, hasTarget, has_faulty, has_sound, sound_sign, Tells, joining_of, joining_by, joined_safe, closes?, keeps_safe?}
+use Rattle.judge_safe_steps.specs.Tests.{signs, has_target, has_faulty, has_sound, sound_sign, Tells, joining_of, joining_by, joined_safe, closes?, keeps_safe?}
 use Rattle.judge_safe_steps.proofs.Closing.{beside_joined, safe_closes, joins_radial, closes_safe}
 use Rattle.judge_safe_steps.proofs.Signs.{signs_tell}
 use Rattle.judge_safe_steps.proofs.Within.{within_in, within_out}
@@ -59,14 +59,14 @@ module _ (g : Grid) (formed : Formed g) (few : g.E ≤ 64) (c : Config) (safe : 
   module _ (x y : ℕ) (tx : Tells g c (g.end_b l) (g.end_a l) x) (ty : Tells g c (g.end_b l) (g.end_b l) y) where
     joining_in_lem : Closes g c l → joined_safe (within_from? g (put c l true)) (joining_of x y) ≡ true
     unfolding joining_of joining_by joined_safe
-    joining_in_lem h = go (hasTarget x) refl (has_sound x) refl (has_sound y) refl (has_faulty x) refl (has_faulty y) refl
+    joining_in_lem h = go (has_target x) refl (has_sound x) refl (has_sound y) refl (has_faulty x) refl (has_faulty y) refl
       where
         fits : (s : ℕ) → Sound g s → within_from? g (put c l true) s ≡ true
         fits s p = within_in g formed (put c l true) (closes_safe g formed c l k safe h) s p
 
-        go : (a : Bool) → hasTarget x ≡ a → (b : Bool) → has_sound x ≡ b → (d : Bool) → has_sound y ≡ d → (f : Bool) → has_faulty x ≡ f → (i : Bool) → has_faulty y ≡ i
+        go : (a : Bool) → has_target x ≡ a → (b : Bool) → has_sound x ≡ b → (d : Bool) → has_sound y ≡ d → (f : Bool) → has_faulty x ≡ f → (i : Bool) → has_faulty y ≡ i
             → joined_safe (within_from? g (put c l true)) (joining_by a b d f i (sound_sign x) (sound_sign y)) ≡ true
-        go true a b p d q f m i n = absurd (h.joins.apart (tx.target-out a))
+        go true a b p d q f m i n = absurd (h.joins.apart (tx.target_out a))
         go false a true p true q f m i n =
             let s = tx.sound_out p in
             let t = ty.sound_out q in
@@ -87,7 +87,7 @@ module _ (g : Grid) (formed : Formed g) (few : g.E ≤ 64) (c : Config) (safe : 
     module _ (within : ℕ → Bool) (h : joined_safe within (joining_of x y) ≡ true) where
       joining_joins : Joins g c l
       unfolding joining_of joining_by joined_safe
-      joining_joins = go (hasTarget x) refl (has_sound x) refl (has_sound y) refl (has_faulty x) refl (has_faulty y) refl h
+      joining_joins = go (has_target x) refl (has_sound x) refl (has_sound y) refl (has_faulty x) refl (has_faulty y) refl h
         where
           dark_first : has_sound x ≡ false → (s : ℕ) → Sound g s → ¬ Joined g c s (g.end_a l)
           dark_first a s p j = false≢true (sym a ∙ (tx.sound_in s p j).0)
@@ -100,13 +100,13 @@ module _ (g : Grid) (formed : Formed g) (few : g.E ≤ 64) (c : Config) (safe : 
           live_clear s a e p i ke f j =
               safe.clear e ke f (record { source = s; sound = p; joined = joined_trans g c (joined_sym g c j) i })
 
-          go : (a : Bool) → hasTarget x ≡ a → (b : Bool) → has_sound x ≡ b → (d : Bool) → has_sound y ≡ d → (f : Bool) → has_faulty x ≡ f → (i : Bool) → has_faulty y ≡ i
+          go : (a : Bool) → has_target x ≡ a → (b : Bool) → has_sound x ≡ b → (d : Bool) → has_sound y ≡ d → (f : Bool) → has_faulty x ≡ f → (i : Bool) → has_faulty y ≡ i
               → joined_safe within (joining_by a b d f i (sound_sign x) (sound_sign y)) ≡ true → Joins g c l
           go true a b p d q f m i n h = absurd (false≢true h)
           go false a true p true q f m i n h = absurd (false≢true h)
           go false a true p false q f m true n h = absurd (false≢true h)
           go false a true p false q f m false n h = record {
-            apart = λ j. false≢true (sym a ∙ tx.target-in j);
+            apart = λ j. false≢true (sym a ∙ tx.target_in j);
             one = λ _ t _ r _. dark_second q t r;
             clear = λ _ e _ _. clear e;
           }
@@ -116,7 +116,7 @@ module _ (g : Grid) (formed : Formed g) (few : g.E ≤ 64) (c : Config) (safe : 
               clear e ke f (inr j) = false≢true (sym n ∙ ty.faulty_in e ke f j)
           go false a false p true q true m i n h = absurd (false≢true h)
           go false a false p true q false m i n h = record {
-            apart = λ j. false≢true (sym a ∙ tx.target-in j);
+            apart = λ j. false≢true (sym a ∙ tx.target_in j);
             one = λ s _ r _ j. absurd (dark_first p s r j);
             clear = λ _ e _ _. clear e;
           }
@@ -125,7 +125,7 @@ module _ (g : Grid) (formed : Formed g) (few : g.E ≤ 64) (c : Config) (safe : 
               clear e ke f (inr j) = live_clear (sound_sign y) (g.end_b l) e (ty.sound_out q).0 (ty.sound_out q).1 ke f j
               clear e ke f (inl j) = false≢true (sym m ∙ tx.faulty_in e ke f j)
           go false a false p false q f m i n h = record {
-            apart = λ j. false≢true (sym a ∙ tx.target-in j);
+            apart = λ j. false≢true (sym a ∙ tx.target_in j);
             one = λ s _ r _ j. absurd (dark_first p s r j);
             clear = λ s e r b. absurd (dark s r b);
           }
@@ -137,7 +137,7 @@ module _ (g : Grid) (formed : Formed g) (few : g.E ≤ 64) (c : Config) (safe : 
       -- and it is asked of the source, where there is one
       joining_within : (s : ℕ) → Sound g s → Beside g c l s → within s ≡ true
       unfolding joining_of joining_by joined_safe
-      joining_within s p o = go (hasTarget x) (has_sound x) refl (has_sound y) refl (has_faulty x) (has_faulty y) h o
+      joining_within s p o = go (has_target x) (has_sound x) refl (has_sound y) refl (has_faulty x) (has_faulty y) h o
         where
           go : (a : Bool) → (b : Bool) → has_sound x ≡ b → (d : Bool) → has_sound y ≡ d → (f i : Bool)
               → joined_safe within (joining_by a b d f i (sound_sign x) (sound_sign y)) ≡ true → Beside g c l s → within s ≡ true
@@ -193,7 +193,7 @@ keeps_safe g formed few c safe s k off = go s.want off
 -- it is the sound source of one of the two parts
 pub fed_sound : (g : Grid) (c : Config) (m a b x y : ℕ) → Tells g c m a x → Tells g c m b y → (s : ℕ) → joining_of x y ≡ FedBy s → Sound g s
 unfolding joining_of joining_by
-fed_sound g c m a b x y tx ty s is = go (hasTarget x) (has_sound x) refl (has_sound y) refl (has_faulty x) (has_faulty y) is
+fed_sound g c m a b x y tx ty s is = go (has_target x) (has_sound x) refl (has_sound y) refl (has_faulty x) (has_faulty y) is
   where
     go : (o : Bool) (p : Bool) → has_sound x ≡ p → (q : Bool) → has_sound y ≡ q → (f i : Bool) → joining_by o p q f i (sound_sign x) (sound_sign y) ≡ FedBy s → Sound g s
     go true p u q v f i e = let z : ◌≡◌ {A = ℕ} 0 1 = cc in absurd (omega arith)

@@ -13,8 +13,8 @@ use Rattle.judge_safe_steps.specs.declared.Joining.TheVariants.{Clash, Dark, Fed
 -- ---- a number of each element, added up over a part
 
 -- the grid with w as the own loads, and as the capacities, which do not enter: over it `element_load` and `link_load` are walks that add up w
-unfoldable pub withLoads : Grid → (ℕ → ℕ) → Grid
-withLoads g w =
+unfoldable pub with_loads : Grid → (ℕ → ℕ) → Grid
+with_loads g w =
     record {
       E = g.E;
       K = g.K;
@@ -27,8 +27,8 @@ withLoads g w =
     }
 
 -- what the walk from e over its whole part adds up
-unfoldable pub partSum : Grid → (ℕ → ℕ) → Config → ℕ → ℕ
-partSum g w c e = load_at (withLoads g w) c e g.K
+unfoldable pub part_sum : Grid → (ℕ → ℕ) → Config → ℕ → ℕ
+part_sum g w c e = load_at (with_loads g w) c e g.K
 
 -- ---- the signs of a part
 
@@ -39,11 +39,11 @@ sign_at g target x = gate (sound? g x) (suc x) + (gate (g.faulty x) 128 + gate (
 
 -- the signs of the part of e
 unfoldable pub signs : (g : Grid) (c : Config) (target e : ℕ) → ℕ
-signs g c target e = partSum g (sign_at g target) c e
+signs g c target e = part_sum g (sign_at g target) c e
 
 -- and what they tell: the part has the target, it has a faulty element, it has a sound source, and which one
-abbrev pub hasTarget : ℕ → Bool
-hasTarget r = not (ltb r 16384)
+abbrev pub has_target : ℕ → Bool
+has_target r = not (ltb r 16384)
 
 abbrev pub has_faulty : ℕ → Bool
 has_faulty r = not (eqb (r / 128 % 128) 0)
@@ -56,8 +56,8 @@ sound_sign r = r % 128 - 1
 
 -- what signs r tell of the part of e, where it is part of a safe configuration: `signs_tell` says that `signs` does
 pub record Tells (g : Grid) (c : Config) (target e r : ℕ) : Type 0 where
-  pub target-in : Joined g c target e → hasTarget r ≡ true
-  pub target-out : hasTarget r ≡ true → Joined g c target e
+  pub target_in : Joined g c target e → has_target r ≡ true
+  pub target_out : has_target r ≡ true → Joined g c target e
   pub faulty_in : (x : ℕ) → x < g.E → g.faulty x ≡ true → Joined g c x e → has_faulty r ≡ true
   pub faulty_out : has_faulty r ≡ true → (x : ℕ) × (x < g.E) × (g.faulty x ≡ true) × Joined g c x e
   pub sound_in : (s : ℕ) → Sound g s → Joined g c s e → (has_sound r ≡ true) × (sound_sign r ≡ s)
@@ -77,7 +77,7 @@ joining_by false false false faulty₁ faulty₂ s t = Dark
 
 -- by their signs, where an element of the second part is the target
 unfoldable pub joining_of : (signs₁ signs₂ : ℕ) → Joining
-joining_of x y = joining_by (hasTarget x) (has_sound x) (has_sound y) (has_faulty x) (has_faulty y) (sound_sign x) (sound_sign y)
+joining_of x y = joining_by (has_target x) (has_sound x) (has_sound y) (has_faulty x) (has_faulty y) (sound_sign x) (sound_sign y)
 
 -- what is joined is safe; `within s` is asked for its source s only
 unfoldable pub joined_safe : (within : ℕ → Bool) → Joining → Bool

@@ -68,10 +68,10 @@ held_plan p (Reply·.Plan q) = q
 held_plan p (Reply·.NoPlan l) = p
 held_plan p (Reply·.Refused f) = p
 
-heldSums : Sums → Reply → Sums
-heldSums l (Reply·.Plan q) = l
-heldSums l (Reply·.NoPlan m) = m
-heldSums l (Reply·.Refused f) = l
+held_sums : Sums → Reply → Sums
+held_sums l (Reply·.Plan q) = l
+held_sums l (Reply·.NoPlan m) = m
+held_sums l (Reply·.Refused f) = l
 
 held_refusal : Refusal → Reply → Refusal
 held_refusal f (Reply·.Plan q) = f
@@ -82,9 +82,9 @@ pub same_plan : {p q : Planned} → Reply·.Plan p ≡ Reply·.Plan q → p ≡ 
 unfolding held_plan
 same_plan {p} e = ap (held_plan p) e
 
-pub same-sums : {l m : Sums} → Reply·.NoPlan l ≡ Reply·.NoPlan m → l ≡ m
-unfolding heldSums
-same-sums {l} e = ap (heldSums l) e
+pub same_sums : {l m : Sums} → Reply·.NoPlan l ≡ Reply·.NoPlan m → l ≡ m
+unfolding held_sums
+same_sums {l} e = ap (held_sums l) e
 
 pub same_refusal : {f g : Refusal} → Reply·.Refused f ≡ Reply·.Refused g → f ≡ g
 unfolding held_refusal
@@ -102,7 +102,7 @@ plan_outcome s p plan kept = record {
 none_outcome : (s : List ℕ) (l : Sums) (plan : Plan) → NoneKept s l → OutcomeKept s (record { reply = Reply·.NoPlan l; plan = plan })
 none_outcome s l plan kept = record {
   plan = λ q e. let z : ◌≡◌ {A = ℕ} 0 1 = cc in absurd (omega arith);
-  none = λ m e. subst (NoneKept s) (same-sums e) kept;
+  none = λ m e. subst (NoneKept s) (same_sums e) kept;
   refused = λ f e. let z : ◌≡◌ {A = ℕ} 0 1 = cc in absurd (omega arith);
 }
 

@@ -42,14 +42,14 @@ ask_most load capacity h = go (borne? capacity load) refl
 -- ---- what is asked
 
 module _ (label load capacity : List ℕ) where
-  asked-no : (x : ℕ) → asked_at label load capacity 0 x ≡ 0
+  asked_no : (x : ℕ) → asked_at label load capacity 0 x ≡ 0
   unfolding asked_at
-  asked-no x = sum_to_no _
+  asked_no x = sum_to_no _
 
-  asked-more : (n x : ℕ) → asked_at label load capacity (suc n) x
+  asked_more : (n x : ℕ) → asked_at label load capacity (suc n) x
       ≡ asked_at label load capacity n x + gate (eqb (at label n) x) (ask_of (at load n) (at capacity n))
   unfolding asked_at
-  asked-more n x = sum_to_more _ n
+  asked_more n x = sum_to_more _ n
 
   pub asks_long : (n : ℕ) → length (asks_in label load capacity n) ≡ 64
   unfolding asks_in
@@ -62,7 +62,7 @@ module _ (label load capacity : List ℕ) where
   pub asks_none : replicate 64 0 ≡ asks_in label load capacity 0
   unfolding asks_in
   asks_none = table_ext 64 (asked_at label load capacity 0) (replicate 64 0) (length-replicate {A = ℕ} 64 0)
-      (λ x h. get_or-replicate 64 x 0 0 h ∙ sym (asked-no x))
+      (λ x h. get_or-replicate 64 x 0 0 h ∙ sym (asked_no x))
 
   -- no more than 2 ^ 32 for each element
   pub asked_most : (n x : ℕ) → ((e : ℕ) → e < n → at load e < 4294967296) → asked_at label load capacity n x ≤ 4294967296 * n
@@ -83,9 +83,9 @@ module _ (label load capacity : List ℕ) where
 
       go : (z : ℕ) → z < 64 → (z ≡ x) ⊎ (z ≡ x → ⊥) → at (set out x v) z ≡ asked_at label load capacity (suc n) z
       go z h (inl s) = rw s (get_or-set_same out x v 0 (omega (arith, long)) ∙ w
-          ∙ rw (was x k) (sym (asked-more n x ∙ rw (eq-eqb (at label n) x (sym q)))))
+          ∙ rw (was x k) (sym (asked_more n x ∙ rw (eq-eqb (at label n) x (sym q)))))
       go z h (inr d) = get_or-set_other out x z v 0 d ∙ was z h
-          ∙ sym (asked-more n z ∙ rw (ne_eqb (at label n) z (λ s. d (sym s ∙ sym q))) (omega arith))
+          ∙ sym (asked_more n z ∙ rw (ne_eqb (at label n) z (λ s. d (sym s ∙ sym q))) (omega arith))
 
 -- ---- what the members of a set ask
 

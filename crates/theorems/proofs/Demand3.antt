@@ -75,5 +75,5 @@ module _ (s : List ℕ) (bytes : Bytes s) (n : Network) (accepted : AcceptedNetw
       let starts = network_starts s bytes n accepted in
       promised_few (net_of n) (formed_net n starts.0) starts.1 q cost (printed_promises s bytes n accepted q cost l printed).promised
 
-  pub plan-file-long : length (plan_file_of q) ≤ 106
-  plan-file-long = omega (arith, few_steps, plan_file_length q)
+  pub plan_file_long : length (plan_file_of q) ≤ 106
+  plan_file_long = omega (arith, few_steps, plan_file_length q)

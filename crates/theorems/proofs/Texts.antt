@@ -122,19 +122,19 @@ load_no_step l k false x y e = let head : ◌≡◌ {A = ℕ} 76 79 = ap (λ (t 
 
 -- ---- the tail: its first line is LOAD, whatever lines follow
 
-abbrev behindFirst : List (List ℕ) → List ℕ
-behindFirst [] = []
-behindFirst (line ∷ lines) = text_of lines
+abbrev behind_first : List (List ℕ) → List ℕ
+behind_first [] = []
+behind_first (line ∷ lines) = text_of lines
 
-tail-first : (l : Sums) → text_of (tail_lines l) ≡ load_line l ++ behindFirst (tail_lines l)
+tail_first : (l : Sums) → text_of (tail_lines l) ≡ load_line l ++ behind_first (tail_lines l)
 unfolding text_of tail_lines
-tail-first l = refl
+tail_first l = refl
 
 tail_same : (l m : Sums) → text_of (tail_lines l) ≡ text_of (tail_lines m) → l ≡ m
-tail_same l m e = (load_split l m (behindFirst (tail_lines l)) (behindFirst (tail_lines m)) (sym (tail-first l) ∙ e ∙ tail-first m)).0
+tail_same l m e = (load_split l m (behind_first (tail_lines l)) (behind_first (tail_lines m)) (sym (tail_first l) ∙ e ∙ tail_first m)).0
 
 tail_no_step : (l : Sums) (k : ℕ) (w : Bool) (y : List ℕ) → text_of (tail_lines l) ≡ step_line k w ++ y → ⊥
-tail_no_step l k w y e = load_no_step l k w (behindFirst (tail_lines l)) y (sym (tail-first l) ∙ e)
+tail_no_step l k w y e = load_no_step l k w (behind_first (tail_lines l)) y (sym (tail_first l) ∙ e)
 
 -- ---- the planner's texts
 

@@ -3,7 +3,7 @@ use Prim.Native.Nat.{◌-◌}
 use mathlib.Core.Path.{◌∙◌}
 use mathlib.Core.Logic.{⊎_elim}
 use native.Mathlib.Omega.{arith}
-use Rattle.feeding_part_sums.proofs.Summing.{Held, begins, own-fits, none, head_read, done, below, next_read, later, opened, came-by, goes_on, roomy, link-no-end, link_none, far_in, link_is}
+use Rattle.feeding_part_sums.proofs.Summing.{Held, begins, own_fits, none, head_read, done, below, next_read, later, opened, came_by, goes_on, roomy, link_no_end, link_none, far_in, link_is}
 use Prim.Native.Nat.{ℕ, ◌<◌}
 use Rattle.feeding.proofs.Pairs.{both}
 use Rattle.feeding_part_sums.proofs.+element_sum_link_sum.Goals as goal
@@ -25,7 +25,7 @@ pub element_sum-overflow_add-sum : goal.element_sum-overflow_add-sum
 element_sum-overflow_add-sum t c =
     let pre· = c.requires in
     let the-args = c.args in
-    omega (arith, own-fits pre·.sum_lent (the-args.depth - 1) the-args.e the-args.via the-args.before the-args.depth, pre·.via_bound)
+    omega (arith, own_fits pre·.sum_lent (the-args.depth - 1) the-args.e the-args.via the-args.before the-args.depth, pre·.via_bound)
 
 pub element_sum-returns-then-depth-eq0 : goal.element_sum-returns-then-depth-eq0
 element_sum-returns-then-depth-eq0 t c =
@@ -60,7 +60,7 @@ element_sum-link_sum-sum-requires t c =
     let pre· = c.requires in
     let loop· = c.loop-j in
     let the-args = c.args in
-    ((omega arith), (pre·.sum_lent, (loop·.invariant.last-in, omega (arith, roomy pre·.sum_lent (the-args.depth - 1) the-args.e the-args.via the-args.before loop·.sum loop·.last loop·.j loop·.invariant (omega arith) (omega arith) (omega arith) the-args.depth (omega arith), pre·.via_bound))))
+    ((omega arith), (pre·.sum_lent, (loop·.invariant.last_in, omega (arith, roomy pre·.sum_lent (the-args.depth - 1) the-args.e the-args.via the-args.before loop·.sum loop·.last loop·.j loop·.invariant (omega arith) (omega arith) (omega arith) the-args.depth (omega arith), pre·.via_bound))))
 
 pub element_sum-overflow_cast-j-in-loop-j : goal.element_sum-overflow_cast-j-in-loop-j
 element_sum-overflow_cast-j-in-loop-j t c =
@@ -81,14 +81,14 @@ element_sum-loop-j-preserved t c =
     let pre· = c.requires in
     let the-args = c.args in
     let loop· = c.loop-j in
-    (elim c.if-closed-l-eq1.branch [ element_sum-then-closed-l-eq1+then-l-via w ↦ goes_on pre·.sum_lent (the-args.depth - 1) the-args.e the-args.via the-args.before loop·.sum loop·.last loop·.j loop·.invariant (omega arith) (omega arith) (omega arith) c.if-closed-l-eq1.sum c.if-closed-l-eq1.last (omega (arith, w.link_sum-sum.ensures)) (omega arith) | element_sum-then-closed-l-eq1+else-l-via w ↦ came-by pre·.sum_lent (the-args.depth - 1) the-args.e the-args.via the-args.before loop·.sum loop·.last loop·.j loop·.invariant (omega arith) c.if-closed-l-eq1.sum c.if-closed-l-eq1.last (omega arith) (omega arith) (omega arith) | element_sum-else-closed-l-eq1 w ↦ opened pre·.sum_lent (the-args.depth - 1) the-args.e the-args.via the-args.before loop·.sum loop·.last loop·.j loop·.invariant (omega arith) c.if-closed-l-eq1.sum c.if-closed-l-eq1.last (omega arith) (omega arith) (omega arith) ])
+    (elim c.if-closed-l-eq1.branch [ element_sum-then-closed-l-eq1+then-l-via w ↦ goes_on pre·.sum_lent (the-args.depth - 1) the-args.e the-args.via the-args.before loop·.sum loop·.last loop·.j loop·.invariant (omega arith) (omega arith) (omega arith) c.if-closed-l-eq1.sum c.if-closed-l-eq1.last (omega (arith, w.link_sum-sum.ensures)) (omega arith) | element_sum-then-closed-l-eq1+else-l-via w ↦ came_by pre·.sum_lent (the-args.depth - 1) the-args.e the-args.via the-args.before loop·.sum loop·.last loop·.j loop·.invariant (omega arith) c.if-closed-l-eq1.sum c.if-closed-l-eq1.last (omega arith) (omega arith) (omega arith) | element_sum-else-closed-l-eq1 w ↦ opened pre·.sum_lent (the-args.depth - 1) the-args.e the-args.via the-args.before loop·.sum loop·.last loop·.j loop·.invariant (omega arith) c.if-closed-l-eq1.sum c.if-closed-l-eq1.last (omega arith) (omega arith) (omega arith) ])
 
 pub element_sum-link_sum-requires : goal.element_sum-link_sum-requires
 element_sum-link_sum-requires t c =
     let pre· = c.requires in
     let loop· = c.loop-j in
     let the-args = c.args in
-    ((omega arith), (pre·.sum_lent, (loop·.invariant.last-in, omega (arith, done pre·.sum_lent (the-args.depth - 1) the-args.e the-args.via the-args.before loop·.sum loop·.last loop·.j loop·.invariant the-args.depth (omega arith) (omega arith), pre·.via_bound))))
+    ((omega arith), (pre·.sum_lent, (loop·.invariant.last_in, omega (arith, done pre·.sum_lent (the-args.depth - 1) the-args.e the-args.via the-args.before loop·.sum loop·.last loop·.j loop·.invariant the-args.depth (omega arith) (omega arith), pre·.via_bound))))
 
 pub element_sum-returns : goal.element_sum-returns
 element_sum-returns t c =
@@ -100,7 +100,7 @@ element_sum-returns t c =
 pub link_sum-returns-then-j-ge192 : goal.link_sum-returns-then-j-ge192
 link_sum-returns-then-j-ge192 t c =
     let the-args = c.args in
-    link-no-end c.requires.sum_lent the-args.depth the-args.j the-args.before (omega arith)
+    link_no_end c.requires.sum_lent the-args.depth the-args.j the-args.before (omega arith)
 
 pub link_sum-returns-then-depth-eq0 : goal.link_sum-returns-then-depth-eq0
 link_sum-returns-then-depth-eq0 t c =

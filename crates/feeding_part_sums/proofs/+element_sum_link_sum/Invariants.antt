@@ -3,7 +3,7 @@ use Prim.Native.Nat.{◌-◌}
 use mathlib.Core.Path.{◌∙◌}
 use mathlib.Core.Logic.{⊎_elim}
 use native.Mathlib.Omega.{arith}
-use Rattle.feeding_part_sums.proofs.Summing.{Held, begins, own-fits, none, head_read, done, below, next_read, later, opened, came-by, goes_on, roomy, link-no-end, link_none, far_in, link_is}
+use Rattle.feeding_part_sums.proofs.Summing.{Held, begins, own_fits, none, head_read, done, below, next_read, later, opened, came_by, goes_on, roomy, link_no_end, link_none, far_in, link_is}
 use Prim.Native.Nat.{ℕ, ◌<◌}
 use Rattle.feeding.proofs.Pairs.{both}
 use Rattle.feeding_part_sums.proofs.+element_sum_link_sum.Given as goal

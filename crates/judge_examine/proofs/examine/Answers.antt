@@ -70,7 +70,7 @@ examine_step-found-requires c =
     let pre· = (both c.requires.searchable c.requires.well_formed_plan) in
     let loop· = c.loop-i in
     let loop-test· = c.loop-i-test in
-    steppable the-args.start.net pre·.0.formed the-args.start.operable the-args.plan pre·.1 c.packed_ends-chain.result loop·.sign c.packed_rating-rating.result (record { own = the-args.start.own; own_is = own_of the-args.start _ pre·.0.made; chain_is = c.packed_ends-chain.ensures; sign-is = loop·.invariant.1 ∙ c.signs_of-sign.ensures; rating_is = c.packed_rating-rating.ensures }) loop·.closed loop·.i loop·.invariant.0 (omega (arith, loop-test·.true))
+    steppable the-args.start.net pre·.0.formed the-args.start.operable the-args.plan pre·.1 c.packed_ends-chain.result loop·.sign c.packed_rating-rating.result (record { own = the-args.start.own; own_is = own_of the-args.start _ pre·.0.made; chain_is = c.packed_ends-chain.ensures; sign_is = loop·.invariant.1 ∙ c.signs_of-sign.ensures; rating_is = c.packed_rating-rating.ensures }) loop·.closed loop·.i loop·.invariant.0 (omega (arith, loop-test·.true))
 
 pub returns-in_default : goal.returns-in_default
 returns-in_default c =
@@ -78,7 +78,7 @@ returns-in_default c =
     let pre· = (both c.requires.searchable c.requires.well_formed_plan) in
     let loop· = c.loop-i in
     let loop-test· = c.loop-i-test in
-    bad_turn the-args.start.net pre·.0.formed the-args.start.operable the-args.plan pre·.1 c.packed_ends-chain.result loop·.sign c.packed_rating-rating.result (record { own = the-args.start.own; own_is = own_of the-args.start _ pre·.0.made; chain_is = c.packed_ends-chain.ensures; sign-is = loop·.invariant.1 ∙ c.signs_of-sign.ensures; rating_is = c.packed_rating-rating.ensures }) loop·.closed loop·.i loop·.invariant.0 (omega (arith, loop-test·.true)) c.state_of-want.result (omega (arith, c.state_of-want.ensures)) _ (omega arith) c.examine_step-found.result c.examine_step-found.ensures.value _ c.in_default.is
+    bad_turn the-args.start.net pre·.0.formed the-args.start.operable the-args.plan pre·.1 c.packed_ends-chain.result loop·.sign c.packed_rating-rating.result (record { own = the-args.start.own; own_is = own_of the-args.start _ pre·.0.made; chain_is = c.packed_ends-chain.ensures; sign_is = loop·.invariant.1 ∙ c.signs_of-sign.ensures; rating_is = c.packed_rating-rating.ensures }) loop·.closed loop·.i loop·.invariant.0 (omega (arith, loop-test·.true)) c.state_of-want.result (omega (arith, c.state_of-want.ensures)) _ (omega arith) c.examine_step-found.result c.examine_step-found.ensures.value _ c.in_default.is
 
 pub overflow_add-i-in-loop-i : goal.overflow_add-i-in-loop-i
 overflow_add-i-in-loop-i c =
@@ -92,7 +92,7 @@ loop-i-preserved c =
     let pre· = (both c.requires.searchable c.requires.well_formed_plan) in
     let loop· = c.loop-i in
     let loop-test· = c.loop-i-test in
-    (good_turn the-args.start.net pre·.0.formed the-args.start.operable the-args.plan pre·.1 c.packed_ends-chain.result loop·.sign c.packed_rating-rating.result (record { own = the-args.start.own; own_is = own_of the-args.start _ pre·.0.made; chain_is = c.packed_ends-chain.ensures; sign-is = loop·.invariant.1 ∙ c.signs_of-sign.ensures; rating_is = c.packed_rating-rating.ensures }) loop·.closed loop·.i loop·.invariant.0 (omega (arith, loop-test·.true)) c.state_of-want.result (omega (arith, c.state_of-want.ensures)) _ (omega arith) c.examine_step-found.result c.examine_step-found.ensures.value _ (c.examine_step-found.ensures.closed_after c.in-AllGood.is) _ (omega arith) c.in-AllGood.is, c.examine_step-found.ensures.sign_unchanged ∙ loop·.invariant.1)
+    (good_turn the-args.start.net pre·.0.formed the-args.start.operable the-args.plan pre·.1 c.packed_ends-chain.result loop·.sign c.packed_rating-rating.result (record { own = the-args.start.own; own_is = own_of the-args.start _ pre·.0.made; chain_is = c.packed_ends-chain.ensures; sign_is = loop·.invariant.1 ∙ c.signs_of-sign.ensures; rating_is = c.packed_rating-rating.ensures }) loop·.closed loop·.i loop·.invariant.0 (omega (arith, loop-test·.true)) c.state_of-want.result (omega (arith, c.state_of-want.ensures)) _ (omega arith) c.examine_step-found.result c.examine_step-found.ensures.value _ (c.examine_step-found.ensures.closed_after c.in-AllGood.is) _ (omega arith) c.in-AllGood.is, c.examine_step-found.ensures.sign_unchanged ∙ loop·.invariant.1)
 
 pub returns : goal.returns
 returns c =

@@ -38,18 +38,18 @@ loop-e-preserved c =
     let sums = loop·.invariant.0 in (
       record {
         fed_is = elim c.if-is_live-eq1.branch [
-          then-is_live-eq1 w ↦ fed_on load live restorable e loop·.fed _ sums.fed_is (omega arith) (omega arith)
+          | then-is_live-eq1 w ↦ fed_on load live restorable e loop·.fed _ sums.fed_is (omega arith) (omega arith)
           | else-is_live-eq1 w ↦ fed_off load live restorable e loop·.fed _ sums.fed_is (omega arith) (omega arith)
         ];
         dark_is = elim c.if-is_restorable-eq1.branch [
-          then-is_restorable-eq1+then-is_live-ne1 w ↦ dark_on load live restorable e loop·.dark _ sums.dark_is
-            (omega arith) (omega arith) (omega arith)
+          | then-is_restorable-eq1+then-is_live-ne1 w ↦ dark_on load live restorable e loop·.dark _ sums.dark_is
+              (omega arith) (omega arith) (omega arith)
           | then-is_restorable-eq1+else-is_live-ne1 w ↦ dark_live load live restorable e loop·.dark _ sums.dark_is
-            (omega arith) (omega arith)
+              (omega arith) (omega arith)
           | else-is_restorable-eq1 w ↦ dark_off load live restorable e loop·.dark _ sums.dark_is (omega arith) (omega arith)
         ];
         lost_is = elim c.if-is_restorable-ne1.branch [
-          then-is_restorable-ne1 w ↦ lost_on load live restorable e loop·.lost _ sums.lost_is (omega arith) (omega arith)
+          | then-is_restorable-ne1 w ↦ lost_on load live restorable e loop·.lost _ sums.lost_is (omega arith) (omega arith)
           | else-is_restorable-ne1 w ↦ lost_off load live restorable e loop·.lost _ sums.lost_is (omega arith) (omega arith)
         ];
       },
