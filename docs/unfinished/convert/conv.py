@@ -115,14 +115,7 @@ def tuple_fix(body,names):
             if depth==0: break
     pre=s[:q]
     if not (pre.strip()=='' or re.search(r"(\bin|→|=)\s*$",pre)): return None
-    inner=s[q+1:-1]
-    parts=[];d0=0;cur=''
-    for ch in inner:
-        if ch in '([{': d0+=1
-        if ch in ')]}': d0-=1
-        if ch==',' and d0==0: parts.append(cur); cur=''
-        else: cur+=ch
-    if cur.strip(): parts.append(cur)
+    parts=split_tuple(s[q+1:-1])
     if len(parts)<2: return None
     while len(parts)<len(names):
         last=parts[-1].strip()
