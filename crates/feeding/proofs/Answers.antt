@@ -7,10 +7,10 @@ use lib.Dec.{ltb}
 use lib.ListN.{length}
 use borrow.Author.Tests.{ltb-true, ltb-false, lt-ltb, le-ltb}
 use native.Mathlib.Omega.{arith}
+use Rattle.std.specs.Prelude.{Result, Ok, Err}
+use Rattle.network.specs.declared.refusal.Refusal.{Refusal}
 use Rattle.network.specs.declared.refusal.Rule.{Rule}
 use Rattle.network.specs.declared.refusal.Rule.TheVariants.{NotATree, TwoSources, FaultWithSource, Overloaded, TooManyOperable}
-use Rattle.network.specs.declared.refusal.Answer.{Answer}
-use Rattle.network.specs.declared.refusal.Answer.TheVariants.{Accepted, Refused}
 use Rattle.feeding.specs.Acceptance.{AnsweredBy, not_a_tree, two_sources, fault_with_source, overloaded, too_many, accepted}
 use Rattle.feeding.specs.Acceptance.{safety, limited, and_then, acceptance_by}
 use Rattle.feeding.specs.Below.{Lowest}
@@ -46,8 +46,8 @@ operables_unique op n m a b = a.count ∙ ap length same ∙ sym b.count
 
 -- ---- what `acceptance` gives, by the rules that are kept
 
-abbrev refused : Rule → ℕ → Answer
-refused r p = Refused (record { rule = r; place = p })
+abbrev refused : Rule → ℕ → Result Unit Refusal
+refused r p = Err (record { rule = r; place = p })
 
 -- the places of rules 14 to 17 at the start
 abbrev tree : Net → ℕ
@@ -99,7 +99,7 @@ module _ (net : Net) (task : Task net) where
   unfolding limited
   gives_18 k h = gives_limited k ∙ rw (h, limited)
 
-  gives_accepted : Kept net.grid net.start_closed → ltb task.limit (length (operables_by net task.operable?)) ≡ false → acceptance_by net task ≡ Accepted
+  gives_accepted : Kept net.grid net.start_closed → ltb task.limit (length (operables_by net task.operable?)) ≡ false → acceptance_by net task ≡ Ok tt
   unfolding limited
   gives_accepted k h = gives_limited k ∙ rw (h, limited)
 
@@ -166,7 +166,7 @@ module _ (net : Net) (formed : Formed net.grid) (task : Task net) (laws : Lawful
   all_counted : {n : ℕ} → Operables task.operable n → n ≡ length (operables_by net task.operable?)
   all_counted {n} o = operables_unique task.operable n (length (operables_by net task.operable?)) o (operables_counted net task laws)
 
-  pub answered_acceptance : (a : Answer) → AnsweredBy net task.operable task.limit a → a ≡ acceptance_by net task
+  pub answered_acceptance : (a : Result Unit Refusal) → AnsweredBy net task.operable task.limit a → a ≡ acceptance_by net task
   answered_acceptance _ (not_a_tree k low) =
       let r = placed low_tree low k in
       ap (refused NotATree) r.0 ∙ sym (gives_14 net task r.1)

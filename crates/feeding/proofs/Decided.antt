@@ -6,10 +6,10 @@ use mathlib.Core.Bool.{Bool, true, false, not, false≢true}
 use lib.Dec.{eqb, ltb}
 use borrow.Author.Tests.{eqb-true, eqb-false, not-true}
 use native.Mathlib.Omega.{arith}
+use Rattle.std.specs.Prelude.{Result, Ok, Err}
+use Rattle.network.specs.declared.refusal.Refusal.{Refusal}
 use Rattle.network.specs.declared.refusal.Rule.{Rule}
 use Rattle.network.specs.declared.refusal.Rule.TheVariants.{NotATree, TwoSources, FaultWithSource, Overloaded}
-use Rattle.network.specs.declared.refusal.Answer.{Answer}
-use Rattle.network.specs.declared.refusal.Answer.TheVariants.{Accepted, Refused}
 use Rattle.feeding.specs.Acceptance.{broken_at, safety}
 use Rattle.feeding.specs.Below.{Lowest}
 use Rattle.feeding.specs.Loads.{lowest_over}
@@ -100,22 +100,22 @@ pub kept_safe? : (g : Grid) (c : Config) → Kept g c → safe? g c ≡ true
 unfolding safe?
 kept_safe? g c r = cc
 
-pub broken : (g : Grid) (r : Rule) (p : ℕ) (rest : Answer) → ltb p g.E ≡ true → broken_at g r p rest ≡ Refused (record { rule = r; place = p })
+pub broken : (g : Grid) (r : Rule) (p : ℕ) (rest : Result Unit Refusal) → ltb p g.E ≡ true → broken_at g r p rest ≡ Err (record { rule = r; place = p })
 unfolding broken_at
 broken g r p rest h = rw (h, broken_at)
 
-pub unbroken : (g : Grid) (r : Rule) (p : ℕ) (rest : Answer) → ltb p g.E ≡ false → broken_at g r p rest ≡ rest
+pub unbroken : (g : Grid) (r : Rule) (p : ℕ) (rest : Result Unit Refusal) → ltb p g.E ≡ false → broken_at g r p rest ≡ rest
 unfolding broken_at
 unbroken g r p rest h = rw (h, broken_at)
 
-accepts : (g : Grid) (r : Rule) (p : ℕ) (rest : Answer) → broken_at g r p rest ≡ Accepted → (ltb p g.E ≡ false) × (rest ≡ Accepted)
+accepts : (g : Grid) (r : Rule) (p : ℕ) (rest : Result Unit Refusal) → broken_at g r p rest ≡ Ok tt → (ltb p g.E ≡ false) × (rest ≡ Ok tt)
 accepts g r p rest h = go (ltb p g.E) refl
   where
-    go : (t : Bool) → ltb p g.E ≡ t → (t ≡ false) × (rest ≡ Accepted)
+    go : (t : Bool) → ltb p g.E ≡ t → (t ≡ false) × (rest ≡ Ok tt)
     go true t = let q = broken g r p rest t in let z : ◌≡◌ {A = ℕ} 0 1 = cc in absurd (omega arith)
     go false t = (refl, sym (unbroken g r p rest t) ∙ h)
 
-pub safety_kept : (g : Grid) (c : Config) → safety g c ≡ Accepted → Kept g c
+pub safety_kept : (g : Grid) (c : Config) → safety g c ≡ Ok tt → Kept g c
 unfolding safety
 safety_kept g c h =
     let t = accepts g NotATree (tree_place g c) _ h in
@@ -123,7 +123,7 @@ safety_kept g c h =
     let f = accepts g FaultWithSource (fault_place g c) _ p.1 in
     record { tree = t.0; pair = p.0; fault = f.0; load = (accepts g Overloaded (lowest_over g c) _ f.1).0 }
 
-pub kept_safety : (g : Grid) (c : Config) → Kept g c → safety g c ≡ Accepted
+pub kept_safety : (g : Grid) (c : Config) → Kept g c → safety g c ≡ Ok tt
 unfolding safety
 kept_safety g c r =
     unbroken g _ _ _ r.tree ∙ unbroken g _ _ _ r.pair ∙ unbroken g _ _ _ r.fault ∙ unbroken g _ _ _ r.load
@@ -134,8 +134,8 @@ safe?_sound g formed c h = kept_safe_lem g formed c (safe?_kept g c h)
 pub safe?_complete : (g : Grid) → Formed g → (c : Config) → Safe g c → safe? g c ≡ true
 safe?_complete g formed c s = kept_safe? g c (safe_kept g formed c s)
 
-pub safety_safe : (g : Grid) (c : Config) → safety g c ≡ Accepted → safe? g c ≡ true
+pub safety_safe : (g : Grid) (c : Config) → safety g c ≡ Ok tt → safe? g c ≡ true
 safety_safe g c h = kept_safe? g c (safety_kept g c h)
 
-pub safe_safety : (g : Grid) (c : Config) → safe? g c ≡ true → safety g c ≡ Accepted
+pub safe_safety : (g : Grid) (c : Config) → safe? g c ≡ true → safety g c ≡ Ok tt
 safe_safety g c h = kept_safety g c (safe?_kept g c h)

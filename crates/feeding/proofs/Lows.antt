@@ -12,7 +12,8 @@ use borrow.Author.Tests.{eqb-true, eqb-false, ltb-true, ltb-false, lt-ltb, le-lt
 use native.Mathlib.Nat.{sub-zero}
 use native.Mathlib.Numerals.{add-one}
 use native.Mathlib.Omega.{arith}
-use Rattle.feeding.specs.Below.{gate, sum_to, any_to, least_to, lowest_from, lowest, highest, those, tabulate, Member, Rising, Lowest}
+use Rattle.std.specs.Prelude.{Some, None}
+use Rattle.feeding.specs.Below.{gate, sum_to, any_to, least_to, lowest_from, lowest, some_below, highest, those, tabulate, Member, Rising, Lowest}
 use Rattle.feeding.specs.Networks.{at}
 use Rattle.feeding.proofs.Below.{any_to_in, any_to_out}
 
@@ -85,6 +86,15 @@ lowest_step n i f k h =
 
 pub lowest_end : (n i : ℕ) (f : ℕ → Bool) → n ≤ i → i ≤ n → lowest_from (n - i) i f ≡ n
 lowest_end n i f h k = let e : n - i ≡ zero = omega arith in ap (λ d. lowest_from d i f) e ∙ lowest_none i f ∙ omega arith
+
+-- a search's number as an option
+pub some_found : (n x : ℕ) → x < n → some_below n x ≡ Some x
+unfolding some_below
+some_found n x h = rw (lt-ltb x n h, some_below)
+
+pub none_found : (n x : ℕ) → n ≤ x → some_below n x ≡ None
+unfolding some_below
+none_found n x h = rw (le-ltb x n h, some_below)
 
 -- what `lowest_from` says
 pub record From (n i : ℕ) (f : ℕ → Bool) (x : ℕ) : Type 0 where

@@ -6,7 +6,7 @@ use mathlib.Core.List.{List}
 use Prim.Native.Nat.{ℕ, zero, suc, ◌+◌, ◌*◌, ◌<◌, ◌≤◌, min}
 use native.Mathlib.Omega.{arith}
 use lib.Dec.{eqb}
-use Rattle.network.specs.declared.refusal.Answer.TheVariants.{Accepted}
+use Rattle.std.specs.Prelude.{Ok}
 use Rattle.network.specs.declared.refusal.Rule.TheVariants.{NotATree, TwoSources, FaultWithSource, Overloaded}
 use Rattle.feeding.specs.Acceptance.{broken_at, safety}
 use Rattle.feeding.specs.Below.{gate, sum_to, least_to}
@@ -114,4 +114,4 @@ module _ (g : Grid) (formed : Formed g) (c c' : Config) (same : (l : ℕ) → l 
       ap₂ (broken_at g NotATree) (lowest_ext g.E _ _ (λ e _. looped_same g c c' same e))
       (ap₂ (broken_at g TwoSources) (lowest_ext g.E _ _ (λ e _. paired_same g c c' same e))
       (ap₂ (broken_at g FaultWithSource) (lowest_ext g.E _ _ (λ e _. ap (λ (b : Bool). g.faulty e && b) (live_same g c c' same e)))
-      (ap (λ (p : ℕ). broken_at g Overloaded p Accepted) over_same)))
+      (ap (λ (p : ℕ). broken_at g Overloaded p (Ok tt)) over_same)))

@@ -6,10 +6,10 @@ use mathlib.Core.Path.{◌≡◌}
 use mathlib.Core.List.{List}
 use lib.Dec.{eqb}
 use lib.ListN.{length}
+use Rattle.std.specs.Prelude.{Result, Ok}
+use Rattle.network.specs.declared.refusal.Refusal.{Refusal}
 use Rattle.network.specs.declared.Network.{Network}
 use Rattle.network.specs.Accepted.{WellFormed}
-use Rattle.network.specs.declared.refusal.Answer.{Answer}
-use Rattle.network.specs.declared.refusal.Answer.TheVariants.{Accepted}
 use Rattle.feeding.specs.Acceptance.{Starts, Answered, not_a_tree, two_sources, fault_with_source, overloaded, too_many, accepted, answer_to}
 use Rattle.feeding.specs.Networks.{Formed, at, grid_of, net_of}
 use Rattle.feeding.specs.Plans.{Step, ValidPlan, Matched}
@@ -39,14 +39,14 @@ lawful n w = restoration_lawful (net_of n) (formed_net n w)
 pub network_answered : (n : Network) → WellFormed n → Answered (net_of n) (answer_to n)
 network_answered n w = acceptance_answered (net_of n) (formed_net n w) (restoration (net_of n)) (lawful n w)
 
-pub answered_network : (n : Network) → WellFormed n → (a : Answer) → Answered (net_of n) a → a ≡ answer_to n
+pub answered_network : (n : Network) → WellFormed n → (a : Result Unit Refusal) → Answered (net_of n) a → a ≡ answer_to n
 answered_network n w a h = answered_acceptance (net_of n) (formed_net n w) (restoration (net_of n)) (lawful n w) a h
 
 -- an accepted network starts safe, and no more of its switches are operable than may be
-pub accepted_starts : (n : Network) → WellFormed n → answer_to n ≡ Accepted → Starts (net_of n)
+pub accepted_starts : (n : Network) → WellFormed n → answer_to n ≡ Ok tt → Starts (net_of n)
 accepted_starts n w e = go (answer_to n) (network_answered n w) e
   where
-    go : (a : Answer) → Answered (net_of n) a → a ≡ Accepted → Starts (net_of n)
+    go : (a : Result Unit Refusal) → Answered (net_of n) a → a ≡ Ok tt → Starts (net_of n)
     go _ (accepted {n = m} s o h) e =
         record { safe = s; few = omega (arith, operables_unique (Operable (net_of n)) m (length (operables (net_of n))) o (operables_counted (net_of n) (restoration (net_of n)) (lawful n w))) }
     go _ (not_a_tree _ _) e = let z : ◌≡◌ {A = ℕ} 0 1 = cc in absurd (omega arith)

@@ -1,6 +1,6 @@
 -- Sums, tests and lowest numbers over the numbers below a bound: the words that the definitions of this crate are written in.
 -- Assumes nothing.
-use Rattle.std.specs.Prelude.{◌≡◌, Bool, true, false, ◌&&◌, ◌||◌, List, [], ◌∷◌, ◌++◌, ◌⊎◌, ltb, ℕ, zero, suc, ◌+◌, ◌<◌, ◌≤◌, min}
+use Rattle.std.specs.Prelude.{◌≡◌, Bool, true, false, ◌&&◌, ◌||◌, List, [], ◌∷◌, ◌++◌, ◌⊎◌, ltb, ℕ, zero, suc, ◌+◌, ◌<◌, ◌≤◌, min, Option, Some, None}
 
 -- x where the test passed, else 0
 abbrev pub gate : Bool → ℕ → ℕ
@@ -38,6 +38,10 @@ lowest_from (suc n) i f = elim (f i) [ true ↦ i | false ↦ lowest_from n (suc
 -- the lowest number below n that passes the test; n where none does
 unfoldable pub lowest : ℕ → (ℕ → Bool) → ℕ
 lowest n f = lowest_from n zero f
+
+-- the number that a search gave, where it is below n; none where the search gave n
+unfoldable pub some_below : ℕ → ℕ → Option ℕ
+some_below n x = elim (ltb x n) [ true ↦ Some x | false ↦ None ]
 
 -- the highest number below n that passes the test; z where none does
 unfoldable pub highest : ℕ → ℕ → (ℕ → Bool) → ℕ

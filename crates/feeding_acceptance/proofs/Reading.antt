@@ -5,12 +5,11 @@ use mathlib.Core.List.{List}
 use Prim.Native.Nat.{ℕ, ◌<◌, ◌≤◌}
 use lib.ListN.{length, get_or}
 use borrow.Author.Tests.{lt-ltb, le-ltb}
+use native.Mathlib.Omega.{arith}
+use Rattle.std.specs.Prelude.{Result, Ok, Err}
 use Rattle.network.specs.declared.Network.{Network}
 use Rattle.network.specs.declared.refusal.Refusal.{Refusal}
 use Rattle.network.specs.declared.refusal.Rule.TheVariants.{TooManyOperable}
-use Rattle.network.specs.declared.refusal.Answer.{Answer}
-use Rattle.network.specs.declared.refusal.Answer.TheVariants.{Accepted, Refused}
-use Rattle.file_network.specs.declared.NetworkRead.{NetworkRead}
 use Rattle.network.specs.Accepted.{WellFormed}
 use Rattle.file_network.specs.Inputs.{network_input, network_read}
 use Rattle.file_refusals.proofs.Reading.{file_formed, network_read_lem}
@@ -25,31 +24,29 @@ use Rattle.feeding.specs.Acceptance.{safety, limited, and_then, acceptance_by, a
 use Rattle.feeding.specs.Tasks.{most_operable}
 use Rattle.feeding_start.specs.declared.Start.{Start}
 use Rattle.feeding_start.specs.Starting.{start_of, start_with}
-use Rattle.feeding_acceptance.specs.declared.Admitted.{Admitted}
-use Rattle.feeding_acceptance.specs.Reading.{unadmitted, handed_out, accepted_from, accepted_read}
+use Rattle.feeding_acceptance.specs.Reading.{handed_out, accepted_read}
 
-pub read_well_formed : (s : List ℕ) → ((i : ℕ) → get_or s i 0 < 256) → (r : NetworkRead) → r ≡ network_read (network_input s) → r.answer ≡ Accepted → WellFormed r.net
-read_well_formed s bytes r e a =
-    file_formed s bytes r.net ((network_read_lem s r.net).0 (sym e ∙ ap (λ (x : Answer). record { answer = x; net = r.net }) a))
+pub read_well_formed : (s : List ℕ) → ((i : ℕ) → get_or s i 0 < 256) → (n : Network) → network_read (network_input s) ≡ Ok n → WellFormed n
+read_well_formed s bytes n e = file_formed s bytes n ((network_read_lem s n).0 e)
 
 -- rule 18, by the count
-limited_over : (limit count : ℕ) → limit < count → Refused (record { rule = TooManyOperable; place = count }) ≡ limited limit count
+limited_over : (limit count : ℕ) → limit < count → Err (record { rule = TooManyOperable; place = count }) ≡ limited limit count
 unfolding limited
 limited_over limit count h = rw (limited, lt-ltb limit count h)
 
-limited_within : (limit count : ℕ) → count ≤ limit → Accepted ≡ limited limit count
+limited_within : (limit count : ℕ) → count ≤ limit → Ok tt ≡ limited limit count
 unfolding limited
 limited_within limit count h = rw (limited, le-ltb limit count h)
 
 module _ (start : Start) (made : start ≡ start_of start.net) (limit count : ℕ) (is : count ≡ length (operables (net_of start.net))) where
-  pub over_limit : limit < count → unadmitted (record { rule = TooManyOperable; place = count })
+  pub over_limit : limit < count → Err (record { rule = TooManyOperable; place = count })
       ≡ handed_out start.net (limited limit (length (operables (net_of start.net))))
   unfolding handed_out
   over_limit h = ap (handed_out start.net) (limited_over limit count h ∙ ap (limited limit) is)
 
-  pub within : count ≤ limit → record { answer = Accepted; start = start } ≡ handed_out start.net (limited limit (length (operables (net_of start.net))))
+  pub within : count ≤ limit → Ok start ≡ handed_out start.net (limited limit (length (operables (net_of start.net))))
   unfolding handed_out
-  within h = ap (λ (x : Start). record { answer = Accepted; start = x }) made ∙ ap (handed_out start.net) (limited_within limit count h ∙ ap (limited limit) is)
+  within h = ap Ok made ∙ ap (handed_out start.net) (limited_within limit count h ∙ ap (limited limit) is)
 
 -- the states at the start, held as numbers, are the configuration at the start
 pub start_safety : (n : Network) → WellFormed n → (closed : List ℕ) → closed ≡ bits 96 n.links (net_of n).start_closed
@@ -74,29 +71,30 @@ module _ (n : Network) where
   start_answer s e = ap (λ (x : Start). handed_out x.net (limited most_operable (length (operables (net_of x.net))))) e
 
 -- rules 14 to 17 of the starting configuration, then 18
-module _ (n : Network) (safe : Answer) (is : safe ≡ safety (net_of n).grid (net_of n).start_closed) where
-  pub unsafe_answer : (r : Refusal) → safe ≡ Refused r → unadmitted r ≡ handed_out n (answer_to n)
+module _ (n : Network) (safe : Result Unit Refusal) (is : safe ≡ safety (net_of n).grid (net_of n).start_closed) where
+  pub unsafe_answer : (r : Refusal) → safe ≡ Err r → Err r ≡ handed_out n (answer_to n)
   unfolding acceptance_by and_then handed_out
   unsafe_answer r e = rw (sym is ∙ e)
 
-  pub safe_answer : (a : Admitted) → safe ≡ Accepted → a ≡ handed_out n (limited most_operable (length (operables (net_of n)))) → a ≡ handed_out n (answer_to n)
+  pub safe_answer : (a : Result Start Refusal) (u : Unit) → safe ≡ Ok u → a ≡ handed_out n (limited most_operable (length (operables (net_of n)))) → a ≡ handed_out n (answer_to n)
   unfolding acceptance_by and_then
-  safe_answer a e h = rw (sym is ∙ e) h
+  safe_answer a u e h = rw (sym is ∙ e) h
 
-pub read_refused : (read : NetworkRead) (r : Refusal) → read.answer ≡ Refused r → unadmitted r ≡ accepted_read read
-unfolding accepted_read accepted_from
+pub read_refused : (read : Result Network Refusal) (r : Refusal) → read ≡ Err r → Err r ≡ accepted_read read
+unfolding accepted_read
 read_refused read r e = rw e
 
-pub read_decided : (read : NetworkRead) (x : Admitted) → read.answer ≡ Accepted → x ≡ handed_out read.net (answer_to read.net) → x ≡ accepted_read read
-unfolding accepted_read accepted_from
-read_decided read x e k = rw e k
+pub read_decided : (read : Result Network Refusal) (n : Network) (x : Result Start Refusal) → read ≡ Ok n → x ≡ handed_out n (answer_to n) → x ≡ accepted_read read
+unfolding accepted_read
+read_decided read n x e k = rw e k
 
--- what is handed out with an answer
-pub handed_answer : (n : Network) (a : Answer) → (handed_out n a).answer ≡ a
-unfolding handed_out unadmitted
-handed_answer n Accepted = refl
-handed_answer n (Refused r) = refl
-
-pub handed_start : (n : Network) (a : Answer) → a ≡ Accepted → (handed_out n a).start ≡ start_of n
+-- what is answered tells whether the network is accepted
+pub handed_accepted : (n : Network) (a : Result Unit Refusal) (s : Start) → handed_out n a ≡ Ok s → (a ≡ Ok tt) × (s ≡ start_of n)
 unfolding handed_out
-handed_start n a e = rw e refl
+handed_accepted n (Ok u) s e = let same : start_of n ≡ s = cc in (refl, sym same)
+handed_accepted n (Err r) s e = let z : ◌≡◌ {A = ℕ} 0 1 = cc in absurd (omega arith)
+
+pub handed_refused : (n : Network) (a : Result Unit Refusal) (r : Refusal) → handed_out n a ≡ Err r → a ≡ Err r
+unfolding handed_out
+handed_refused n (Ok u) r e = let z : ◌≡◌ {A = ℕ} 0 1 = cc in absurd (omega arith)
+handed_refused n (Err q) r e = let same : q ≡ r = cc in ap Err same

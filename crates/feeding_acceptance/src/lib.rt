@@ -9,7 +9,7 @@ ghost use Rattle.feeding.specs.Acceptance.{limited, answer_to};
 ghost use Rattle.feeding.specs.Networks.{net_of};
 ghost use Rattle.feeding.specs.Restoration.{operables};
 ghost use Rattle.feeding_start.specs.Starting.{start_of};
-ghost use Rattle.feeding_acceptance.specs.Reading.{Admission, unadmitted, handed_out, accepted_read};
+ghost use Rattle.feeding_acceptance.specs.Reading.{Admission, handed_out, accepted_read};
 
 use feeding_ends::own_ends;
 use feeding_parts::parts_of;
@@ -18,27 +18,10 @@ use feeding_sets::{count_of, members_of};
 use feeding_start::{Start, start_of};
 use file_network::read_network;
 use network::Network;
-use network::refusal::{Answer, Refusal, Rule};
-
-// What an input is admitted as: the start of its network, or a refusal with the start of the empty network.
-#[derive(Clone, Copy)]
-pub struct Admitted {
-    pub answer: Answer,
-    pub start: Start,
-}
-
-fn refused(refusal: Refusal) -> Admitted
-    ensures { result ≡ unadmitted refusal }
-{
-    let start = Start::none();
-    Admitted {
-        answer: Answer::Refused(refusal),
-        start,
-    }
-}
+use network::refusal::{Refusal, Rule};
 
 // Rule 18.
-fn within_limit(start: Start, limit: usize) -> Admitted
+fn within_limit(start: Start, limit: usize) -> Result<Start, Refusal>
     requires well_formed { WellFormed start.net }
     requires start_value { start ≡ start_of start.net }
     ensures { result ≡ handed_out start.net (limited limit (length (operables (net_of start.net)))) }
@@ -46,18 +29,15 @@ fn within_limit(start: Start, limit: usize) -> Admitted
     let operable = start.operable;
     let count = count_of(&operable, start.net.links);
     if limit < count {
-        return refused(Refusal {
+        return Err(Refusal {
             rule: Rule::TooManyOperable,
             place: count,
         });
     }
-    Admitted {
-        answer: Answer::Accepted,
-        start,
-    }
+    Ok(start)
 }
 
-pub fn accept(net: Network) -> Admitted
+pub fn accept(net: Network) -> Result<Start, Refusal>
     requires { WellFormed net }
     ensures { result ≡ handed_out net (answer_to net) }
 {
@@ -71,26 +51,17 @@ pub fn accept(net: Network) -> Admitted
     let sound = members_of(&flags, 1, 1, net.elements);
     let faulty = members_of(&flags, 2, 3, net.elements);
     let parts = parts_of(&from, &to, &closed, net.links);
-    let safe = check(net, own, &closed, &sound, &faulty, parts);
-    match safe {
-        Answer::Refused(refusal) => refused(refusal),
-        Answer::Accepted => {
-            let label = parts.label;
-            let start = start_of(net, own, closed, label, sound, faulty);
-            within_limit(start, Network::MAX_OPERABLE)
-        }
-    }
+    check(net, own, &closed, &sound, &faulty, parts)?;
+    let label = parts.label;
+    let start = start_of(net, own, closed, label, sound, faulty);
+    within_limit(start, Network::MAX_OPERABLE)
 }
 
 // The planner's input: rules 1 to 13 and 20, then 14 to 18.
-pub fn read_accepted(s: &[u8]) -> Admitted
+pub fn read_accepted(s: &[u8]) -> Result<Start, Refusal>
     ensures value { result ≡ accepted_read (network_read (network_input s.now)) }
-    ensures admission { Admission s.now result.answer result.start.net }
+    ensures admission { Admission s.now result }
 {
-    let read = read_network(s);
-    let answer = read.answer;
-    match answer {
-        Answer::Refused(refusal) => refused(refusal),
-        Answer::Accepted => accept(read.net),
-    }
+    let net = read_network(s)?;
+    accept(net)
 }

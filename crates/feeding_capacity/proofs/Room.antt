@@ -125,18 +125,6 @@ own_load : (g : Grid) (c : Config) (d e via : ℕ) → g.load e ≤ element_load
 own_load g c zero e via = omega (arith, load_none g c e via)
 own_load g c (suc d) e via = omega (arith, load_more g c d e via)
 
-module _ {head next fars closed load capacity : List ℕ} {E K : ℕ} (lent : Lent head next fars closed load capacity E K) where
-  pub head_read : (e : ℕ) → e < E → at head e ≤ 192
-  head_read e k = (lent.heads e k).at_most
-
-  pub next_read : (j : ℕ) → j < 2 * K → at next j ≤ 192
-  next_read j k = (lent.nexts j k).at_most
-
--- the same walk, its numbers read from the packed arrays
-pub moved : {g : Grid} {c : Config} {d e via over sum sum' j j' : ℕ} → sum ≡ sum' → j ≡ j' → Walked g c d e via sum over j
-    → Walked g c d e via sum' over j'
-moved p q w = rw (← p, ← q) w
-
 -- ---- the element's turns
 
 module _ {head next far closed load capacity : List ℕ} {E K : ℕ} (lent : Lent head next far closed load capacity E K)

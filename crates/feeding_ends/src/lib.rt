@@ -6,7 +6,7 @@ ghost use Rattle.feeding.specs.Networks.{at, is_in};
 ghost use Rattle.feeding_ends.specs.Ends.{TwoEnds, own_ends};
 
 // The ends of the links: end 2l is the first end of link l and end 2l + 1 its second. head[e] is the lowest chained end at element e,
-// next[j] the lowest chained end above j at the same element, 192 where there is none, and far[j] the element at the other end of j's link.
+// next[j] the lowest chained end above j at the same element, 192 (as `own_ends` in specs/ has it) where there is none, and far[j] the element at the other end of j's link.
 #[derive(Clone, Copy)]
 pub struct OwnEnds {
     pub head: [u8; 64],
@@ -22,9 +22,7 @@ pub fn own_ends(from: &[u16], to: &[u16], has: &[u8], links: usize) -> OwnEnds
     let mut head: [u8; 64] = [192; 64];
     let mut next: [u8; 192] = [192; 192];
     let mut far: [u8; 192] = [0; 192];
-    let mut l = links;
-    while 0 < l {
-        l = l - 1;
+    for l in (0..links).rev() {
         let a = from[l] as usize;
         let b = to[l] as usize;
         next[2 * l + 1] = head[b];

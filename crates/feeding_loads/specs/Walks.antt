@@ -7,7 +7,9 @@ use Rattle.feeding.specs.Networks.{Grid, at}
 use Rattle.feeding.specs.Parts.{Config, closed_in}
 use Rattle.feeding.specs.Loads.{borne?, element_load, link_load, element_over, link_over}
 use Rattle.feeding_ends.specs.Ends.{end_at, own}
+use Rattle.feeding_walks.specs.declared.Walk.{Walk}
 use Rattle.feeding_loads.specs.declared.Carried.{Carried}
+use Rattle.feeding_loads.specs.declared.Lists.{Lists}
 
 -- the two ends of a link by the far elements of its ends
 abbrev pub ends_a : List ℕ → ℕ → ℕ
@@ -55,6 +57,20 @@ pub record Lent (head next far closed load capacity : List ℕ) (E K : ℕ) : Ty
   pub differ : (l : ℕ) → l < K → ends_a far l ≡ ends_b far l → ⊥
   pub heads : (e : ℕ) → e < E → Skips (ends_a far) (ends_b far) (closed_in closed) K e 0 (at head e)
   pub nexts : (j : ℕ) → j < 2 * K → Skips (ends_a far) (ends_b far) (closed_in closed) K (near_at far j) (suc j) (at next j)
+
+-- the same of the lists that are viewed, with these capacities, and the grid that they hold
+abbrev pub ListsLent : Lists → (capacity : List ℕ) → Type 0
+ListsLent lists capacity = Lent lists.head.now lists.next.now lists.far.now lists.closed.now lists.load.now capacity lists.elements lists.links
+
+abbrev pub lists_grid : Lists → (capacity : List ℕ) → Grid
+lists_grid lists capacity = walk_grid lists.elements lists.links lists.far.now lists.load.now capacity
+
+-- the same of what is made once per network, in these states
+abbrev pub WalkLent : Walk → (closed : List ℕ) → Type 0
+WalkLent walk closed = Lent walk.own.head walk.own.next walk.own.far closed walk.load walk.capacity walk.elements walk.links
+
+abbrev pub grid_of_walk : Walk → Grid
+grid_of_walk walk = walk_grid walk.elements walk.links walk.own.far walk.load walk.capacity
 
 -- the lower of `over` and e, where the margin of e is negative
 unfoldable pub lower_over : (e load capacity over : ℕ) → ℕ

@@ -2,13 +2,28 @@
 #![tactic(auto)]
 
 ghost use Rattle.std.specs.Prelude.{◌≡◌, ◌<◌, ◌≤◌, ◌^◌, ◌*◌, ◌/◌, length};
+ghost use Rattle.feeding.specs.Below.{some_below};
 ghost use Rattle.feeding.specs.Parts.{closed_in};
 ghost use Rattle.feeding.specs.Loads.{element_load, link_load};
-ghost use Rattle.feeding_loads.specs.Walks.{Lent, walk_grid, near_at, lower_over, element_carried, link_carried, Carries, over_place};
+ghost use Rattle.feeding_loads.specs.Walks.{ListsLent, lists_grid, near_at, lower_over, element_carried, link_carried, Carries, over_place};
 
 use feeding_load_test::margin_of;
 
-// A load, and the lowest element above its capacity that was met on the way, or the number of elements.
+// The lists that a walk goes over: the chained ends of the links, which links are closed, and the own loads; and how many elements and links there are.
+// Slices, because the walks over them promise what they do for lists of any length.
+#[derive(Clone, Copy)]
+pub struct Lists<'a> {
+    pub head: &'a [u8],
+    pub next: &'a [u8],
+    pub far: &'a [u8],
+    pub closed: &'a [u8],
+    pub load: &'a [u32],
+    pub elements: usize,
+    pub links: usize,
+}
+
+// A load, and the lowest element above its capacity that was met on the way, or the number of elements: lower than none is any element, so that the lower
+// of two answers is their minimum, and an Option there is no plainer.
 #[derive(Clone, Copy)]
 pub struct Carried {
     pub load: u64,
@@ -23,62 +38,35 @@ fn lower_over(e: usize, load: u64, capacity: u32, over: usize) -> usize
     if margin_of(load, capacity as u64) >= 0 {
         return over;
     }
-    if e < over {
-        return e;
-    }
-    over
+    over.min(e)
 }
 
 // The load at e, come to over the link via.
 #[cycle(element_load_link_load)]
-pub fn element_load<'a>(
-    head: &'a [u8],
-    next: &'a [u8],
-    far: &'a [u8],
-    closed: &'a [u8],
-    load: &'a [u32],
-    capacity: &'a [u32],
-    elements: usize,
-    links: usize,
-    e: usize,
-    via: usize,
-    depth: usize,
-) -> Carried
-    requires lent { Lent head.now next.now far.now closed.now load.now capacity.now elements links }
-    requires e_lt_elements { e < elements }
-    requires via_bound { element_load (walk_grid elements links far.now load.now capacity.now) (closed_in closed.now) depth e via < 2 ^ 63 }
-    ensures { result ≡ element_carried (walk_grid elements links far.now load.now capacity.now) (closed_in closed.now) depth e via }
+pub fn element_load(lists: &Lists, capacity: &[u32], e: usize, via: usize, depth: usize) -> Carried
+    requires lent { ListsLent lists.now capacity.now }
+    requires e_lt_elements { e < lists.now.elements }
+    requires via_bound { element_load (lists_grid lists.now capacity.now) (closed_in lists.now.closed.now) depth e via < 2 ^ 63 }
+    ensures { result ≡ element_carried (lists_grid lists.now capacity.now) (closed_in lists.now.closed.now) depth e via }
 {
-    let mut sum = load[e] as u64;
-    let mut over = elements;
+    let mut sum = lists.load[e] as u64;
+    let mut over = lists.elements;
     if depth == 0 {
         over = lower_over(e, sum, capacity[e], over);
         return Carried { load: sum, over };
     }
-    let mut j = head[e] as usize;
+    let mut j = lists.head[e] as usize;
+    // along the chain of ends, so it counts nothing
     while j < 192 {
         let l = j / 2;
-        if closed[l] == 1 {
+        if lists.closed[l] == 1 {
             if l != via {
-                let c = link_load(
-                    head,
-                    next,
-                    far,
-                    closed,
-                    load,
-                    capacity,
-                    elements,
-                    links,
-                    j,
-                    depth - 1,
-                );
+                let c = link_load(lists, capacity, j, depth - 1);
                 sum = sum + c.load;
-                if c.over < over {
-                    over = c.over;
-                }
+                over = over.min(c.over);
             }
         }
-        j = next[j] as usize;
+        j = lists.next[j] as usize;
     }
     over = lower_over(e, sum, capacity[e], over);
     Carried { load: sum, over }
@@ -86,84 +74,38 @@ pub fn element_load<'a>(
 
 // What the link of end j carries away from that end: the load at its far element.
 #[cycle(element_load_link_load)]
-pub fn link_load<'a>(
-    head: &'a [u8],
-    next: &'a [u8],
-    far: &'a [u8],
-    closed: &'a [u8],
-    load: &'a [u32],
-    capacity: &'a [u32],
-    elements: usize,
-    links: usize,
-    j: usize,
-    depth: usize,
-) -> Carried
-    requires lent { Lent head.now next.now far.now closed.now load.now capacity.now elements links }
-    requires j_bound { j < 2 * links }
-    requires j_bound_2 { link_load (walk_grid elements links far.now load.now capacity.now) (closed_in closed.now) depth (j / 2) (near_at far.now j) < 2 ^ 63 }
-    ensures { result ≡ link_carried (walk_grid elements links far.now load.now capacity.now) (closed_in closed.now) depth (j / 2) (near_at far.now j) }
+pub fn link_load(lists: &Lists, capacity: &[u32], j: usize, depth: usize) -> Carried
+    requires lent { ListsLent lists.now capacity.now }
+    requires j_bound { j < 2 * lists.now.links }
+    requires j_bound_2 { link_load (lists_grid lists.now capacity.now) (closed_in lists.now.closed.now) depth (j / 2) (near_at lists.now.far.now j) < 2 ^ 63 }
+    ensures { result ≡ link_carried (lists_grid lists.now capacity.now) (closed_in lists.now.closed.now) depth (j / 2) (near_at lists.now.far.now j) }
 {
     if depth == 0 {
         return Carried {
             load: 0,
-            over: elements,
+            over: lists.elements,
         };
     }
-    let f = far[j] as usize;
-    element_load(
-        head,
-        next,
-        far,
-        closed,
-        load,
-        capacity,
-        elements,
-        links,
-        f,
-        j / 2,
-        depth - 1,
-    )
+    let f = lists.far[j] as usize;
+    element_load(lists, capacity, f, j / 2, depth - 1)
 }
 
-// The lowest element above its capacity over the walks from all sound sources, or the number of elements.
-pub fn over_place<'a>(
-    head: &'a [u8],
-    next: &'a [u8],
-    far: &'a [u8],
-    closed: &'a [u8],
-    load: &'a [u32],
-    capacity: &'a [u32],
-    sound: &'a [u8],
-    elements: usize,
-    links: usize,
-) -> usize
-    requires lent { Lent head.now next.now far.now closed.now load.now capacity.now elements links }
-    requires elements_bound { (elements ≤ 64) × (elements ≤ length sound.now) }
-    requires carries { Carries (walk_grid elements links far.now load.now capacity.now) (closed_in closed.now) sound.now }
-    ensures { result ≡ over_place (walk_grid elements links far.now load.now capacity.now) (closed_in closed.now) sound.now }
+// The lowest element above its capacity over the walks from all sound sources.
+pub fn over_place(lists: &Lists, capacity: &[u32], sound: &[u8]) -> Option<usize>
+    requires lent { ListsLent lists.now capacity.now }
+    requires elements_bound { (lists.now.elements ≤ 64) × (lists.now.elements ≤ length sound.now) }
+    requires carries { Carries (lists_grid lists.now capacity.now) (closed_in lists.now.closed.now) sound.now }
+    ensures { result ≡ some_below lists.now.elements (over_place (lists_grid lists.now capacity.now) (closed_in lists.now.closed.now) sound.now) }
 {
-    let mut place = elements;
-    let mut s: usize = 0;
-    while s < elements {
+    let mut place = lists.elements;
+    for s in 0..lists.elements {
         if sound[s] == 1 {
-            let c = element_load(
-                head,
-                next,
-                far,
-                closed,
-                load,
-                capacity,
-                elements,
-                links,
-                s,
-                links,
-                2 * elements,
-            );
-            if c.over < place {
-                place = c.over;
-            }
+            let c = element_load(lists, capacity, s, lists.links, 2 * lists.elements);
+            place = place.min(c.over);
         }
-        s += 1;
     }
-    place
+    if place < lists.elements {
+        return Some(place);
+    }
+    None
 }

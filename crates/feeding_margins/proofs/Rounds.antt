@@ -11,7 +11,7 @@ use borrow.Author.Tests.{eqb-true, eqb-false, eq-eqb, ne_eqb, lt-ltb}
 use native.Mathlib.Omega.{arith}
 use Rattle.feeding.specs.Below.{least_to}
 use Rattle.feeding.specs.Networks.{Grid, Formed, at}
-use Rattle.feeding.specs.Parts.{Config, closed_in, touches, far}
+use Rattle.feeding.specs.Parts.{Config, closed_in, touches}
 use Rattle.feeding.specs.Loads.{leads, element_load, link_load, link_over}
 use Rattle.feeding.proofs.Below.{and_both}
 use Rattle.feeding_ends.specs.Ends.{end_at, own}

@@ -15,10 +15,10 @@ use mir.Syntax.{w64}
 use mir.Val.{SFits, to_z, of_z}
 use mir.Facts.{to_z-of_z}
 use Rattle.feeding_margins.specs.declared.Spot.{Spot}
-use Rattle.feeding_margins.specs.declared.Spot.TheVariants.{Nowhere, At}
+use Rattle.std.specs.Prelude.{Option, Some, None}
 use Rattle.feeding.specs.Loads.{margin}
 use Rattle.feeding_load_test.proofs.Signs.{margin_small}
-use Rattle.feeding_margins.specs.Margins.{unfed, tighter, tightest_to, tightest_in}
+use Rattle.feeding_margins.specs.Margins.{unfed, spot_at, tighter, tightest_to, tightest_in}
 
 -- ---- the order of integers
 
@@ -40,29 +40,29 @@ lt_le (negsuc a) (negsuc b) h = record { le = le→leb b a (omega (arith, ltb→
 
 -- ---- the tighter of two, as the machine compares signed numbers
 
-module _ (s : Spot) (e : ℕ) (m : ℤ) (fit : SFits w64 m) where
-  pub tighter_first : s ≡ Nowhere → At e (to_z w64 (of_z w64 m)) ≡ tighter s e m
+module _ (s : Option Spot) (e : ℕ) (m : ℤ) (fit : SFits w64 m) where
+  pub tighter_first : s ≡ None → spot_at e (to_z w64 (of_z w64 m)) ≡ tighter s e m
   unfolding tighter
   tighter_first q = rw (q, to_z-of_z fit)
 
-  module _ (x : ℕ) (k : ℤ) (is : s ≡ At x k) (fits : SFits w64 k) where
-    pub tighter_less : lt_z (to_z w64 (of_z w64 m)) (to_z w64 (of_z w64 k)) ≡ true → At e (to_z w64 (of_z w64 m)) ≡ tighter s e m
+  module _ (old : Spot) (is : s ≡ Some old) (fits : SFits w64 old.margin) where
+    pub tighter_less : lt_z (to_z w64 (of_z w64 m)) (to_z w64 (of_z w64 old.margin)) ≡ true → spot_at e (to_z w64 (of_z w64 m)) ≡ tighter s e m
     unfolding tighter
     tighter_less h =
-        ap (At e) (to_z-of_z fit) ∙ ap (λ (t : Bool). cond t (At e m) (At x k)) (sym h ∙ ap₂ lt_z (to_z-of_z fit) (to_z-of_z fits))
-        ∙ ap (λ (y : Spot). tighter y e m) (sym is)
+        ap (spot_at e) (to_z-of_z fit) ∙ ap (λ (t : Bool). cond t (spot_at e m) (Some old)) (sym h ∙ ap₂ lt_z (to_z-of_z fit) (to_z-of_z fits))
+        ∙ ap (λ (y : Option Spot). tighter y e m) (sym is)
 
-    pub tighter_more : lt_z (to_z w64 (of_z w64 m)) (to_z w64 (of_z w64 k)) ≡ false → At x (to_z w64 (of_z w64 k)) ≡ tighter s e m
+    pub tighter_more : lt_z (to_z w64 (of_z w64 m)) (to_z w64 (of_z w64 old.margin)) ≡ false → Some old ≡ tighter s e m
     unfolding tighter
     tighter_more h =
-        ap (At x) (to_z-of_z fits) ∙ ap (λ (t : Bool). cond t (At e m) (At x k)) (sym h ∙ ap₂ lt_z (to_z-of_z fit) (to_z-of_z fits))
-        ∙ ap (λ (y : Spot). tighter y e m) (sym is)
+        ap (λ (t : Bool). cond t (spot_at e m) (Some old)) (sym h ∙ ap₂ lt_z (to_z-of_z fit) (to_z-of_z fits))
+        ∙ ap (λ (y : Option Spot). tighter y e m) (sym is)
 
 -- what the scan of the first n elements answers
-pub data Scanned (n : ℕ) (test : ℕ → Bool) (m : ℕ → ℤ) : Spot → Type 0 where
-  none : ((x : ℕ) → x < n → test x ≡ false) → Scanned n test m Nowhere
+pub data Scanned (n : ℕ) (test : ℕ → Bool) (m : ℕ → ℤ) : Option Spot → Type 0 where
+  none : ((x : ℕ) → x < n → test x ≡ false) → Scanned n test m None
   least : {e : ℕ} {k : ℤ} → e < n → test e ≡ true → k ≡ m e → ((x : ℕ) → x < n → test x ≡ true → k ≤ℤ m x)
-      → ((x : ℕ) → x < n → test x ≡ true → m x ≡ k → e ≤ x) → Scanned n test m (At e k)
+      → ((x : ℕ) → x < n → test x ≡ true → m x ≡ k → e ≤ x) → Scanned n test m (spot_at e k)
 
 module _ (test : ℕ → Bool) (m : ℕ → ℤ) where
   -- the numbers below n + 1
@@ -73,14 +73,14 @@ module _ (test : ℕ → Bool) (m : ℕ → ℤ) where
       go true t = subst P (sym (eqb-true x n t)) k
       go false t = h x (omega (arith, eqb-false x n t))
 
-  scan_off : (n : ℕ) (s : Spot) → test n ≡ false → Scanned n test m s → Scanned (suc n) test m s
+  scan_off : (n : ℕ) (s : Option Spot) → test n ≡ false → Scanned n test m s → Scanned (suc n) test m s
   scan_off n _ f (none h) = none (each n (λ x. test x ≡ false) h f)
   scan_off n _ f (least {e = e} {k = k} b t q l o) =
       least {e = e} (omega arith) t q
       (each n (λ x. test x ≡ true → k ≤ℤ m x) l (λ u. absurd (false≢true (sym f ∙ u))))
       (each n (λ x. test x ≡ true → m x ≡ k → e ≤ x) o (λ u _. absurd (false≢true (sym f ∙ u))))
 
-  scan_on : (n : ℕ) (s : Spot) → test n ≡ true → Scanned n test m s → Scanned (suc n) test m (tighter s n (m n))
+  scan_on : (n : ℕ) (s : Option Spot) → test n ≡ true → Scanned n test m s → Scanned (suc n) test m (tighter s n (m n))
   unfolding tighter
   scan_on n _ f (none h) =
       least {e = n} (omega arith) f refl
@@ -88,7 +88,7 @@ module _ (test : ℕ → Bool) (m : ℕ → ℤ) where
       (each n (λ x. test x ≡ true → m x ≡ m n → n ≤ x) (λ x b u. absurd (false≢true (sym (h x b) ∙ u))) (λ _ _. omega arith))
   scan_on n _ f (least {e = e} {k = k} b t q l o) = go (lt_z (m n) k) refl
     where
-      go : (u : Bool) → lt_z (m n) k ≡ u → Scanned (suc n) test m (cond u (At n (m n)) (At e k))
+      go : (u : Bool) → lt_z (m n) k ≡ u → Scanned (suc n) test m (cond u (spot_at n (m n)) (spot_at e k))
       go true u = least {e = n} (omega arith) f refl
           (each n (λ x. test x ≡ true → m n ≤ℤ m x) (λ x c v. lt_le (m n) (m x) (<ℤ-≤ℤ_trans (lt_in (m n) k u) (l x c v))) (λ _. ≤ℤ_refl (m n)))
           (each n (λ x. test x ≡ true → m x ≡ m n → n ≤ x)
@@ -110,16 +110,16 @@ module _ (test : ℕ → Bool) (m : ℕ → ℤ) where
 -- ---- the turns of `least_margin`
 
 module _ (capacity loads : List ℕ) where
-  pub spot_none : Nowhere ≡ tightest_in 0 (at capacity) (at loads)
+  pub spot_none : None ≡ tightest_in 0 (at capacity) (at loads)
   unfolding tightest_in tightest_to
   spot_none = refl
 
-  pub spot_on : (e : ℕ) (s r : Spot) (m : ℤ) → (at loads e ≡ unfed → ⊥) → at capacity e < 2 ^ 63 → at loads e < 2 ^ 63
+  pub spot_on : (e : ℕ) (s r : Option Spot) (m : ℤ) → (at loads e ≡ unfed → ⊥) → at capacity e < 2 ^ 63 → at loads e < 2 ^ 63
       → s ≡ tightest_in e (at capacity) (at loads) → m ≡ margin (at capacity e) (at loads e)
       → r ≡ tighter s e (to_z w64 (of_z w64 m)) → r ≡ tightest_in (e + 1) (at capacity) (at loads)
   unfolding tightest_in tightest_to
   spot_on e s r m h cap load p q t =
-      t ∙ ap₂ (λ (x : Spot) (y : ℤ). tighter x e y) p
+      t ∙ ap₂ (λ (x : Option Spot) (y : ℤ). tighter x e y) p
       (ap (λ (y : ℤ). to_z w64 (of_z w64 y)) q ∙ to_z-of_z (margin_small (at capacity e) (at loads e) cap load))
       ∙ ap (λ (b : Bool). elim b [
         | true ↦ tighter (tightest_to e (λ x. not (eqb (at loads x) unfed)) (λ x. margin (at capacity x) (at loads x))) e (margin (at capacity e) (at loads e))
@@ -127,7 +127,7 @@ module _ (capacity loads : List ℕ) where
       ]) (sym (ap not (ne_eqb (at loads e) unfed h)))
       ∙ ap (λ (n : ℕ). tightest_in n (at capacity) (at loads)) (sym (add-one e))
 
-  pub spot_off : (e : ℕ) (s : Spot) → at loads e ≡ unfed → s ≡ tightest_in e (at capacity) (at loads) → s ≡ tightest_in (e + 1) (at capacity) (at loads)
+  pub spot_off : (e : ℕ) (s : Option Spot) → at loads e ≡ unfed → s ≡ tightest_in e (at capacity) (at loads) → s ≡ tightest_in (e + 1) (at capacity) (at loads)
   unfolding tightest_in tightest_to
   spot_off e s h p =
       p ∙ ap (λ (b : Bool). elim b [
@@ -136,5 +136,5 @@ module _ (capacity loads : List ℕ) where
       ]) (sym (ap not (eq-eqb (at loads e) unfed h)))
       ∙ ap (λ (n : ℕ). tightest_in n (at capacity) (at loads)) (sym (add-one e))
 
-  pub spot_all : (n e : ℕ) (s : Spot) → e ≡ n → s ≡ tightest_in e (at capacity) (at loads) → s ≡ tightest_in n (at capacity) (at loads)
+  pub spot_all : (n e : ℕ) (s : Option Spot) → e ≡ n → s ≡ tightest_in e (at capacity) (at loads) → s ≡ tightest_in n (at capacity) (at loads)
   spot_all n e s q p = p ∙ ap (λ (x : ℕ). tightest_in x (at capacity) (at loads)) q

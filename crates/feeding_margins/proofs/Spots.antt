@@ -18,8 +18,8 @@ use Rattle.feeding.proofs.Load.{live_fed, fed_in}
 use Rattle.feeding.proofs.Tests.{live?_out, dark_out}
 use Rattle.feeding.proofs.Tightest.{margin_live, live_margin, tightest_unique}
 use Rattle.feeding_margins.specs.declared.Spot.{Spot}
-use Rattle.feeding_margins.specs.declared.Spot.TheVariants.{At}
-use Rattle.feeding_margins.specs.Margins.{Spotted, tightest_at, none_live, unfed, loads_of, tightest_in, tightest}
+use Rattle.std.specs.Prelude.{Option}
+use Rattle.feeding_margins.specs.Margins.{Spotted, spot_at, tightest_at, none_live, unfed, loads_of, tightest_in, tightest}
 use Rattle.feeding_margins.proofs.Scans.{Scanned, none, least, scanned}
 use Rattle.feeding_margins.proofs.Stored.{loads_fed, loads_dark, loads_unmarked}
 
@@ -37,7 +37,7 @@ module _ (g : Grid) (formed : Formed g) (few : g.E ≤ 64) (c : Config) (safe : 
   margin_is : {e via : ℕ} → Fed g c e via → margin (g.capacity e) (at (loads_of g c) e) ≡ margin_at g c e via
   margin_is {e} f = ap (margin (g.capacity e)) (loads_fed g formed few c safe small f)
 
-  scan_spotted : (s : Spot) → Scanned g.E (λ e. not (eqb (at (loads_of g c) e) unfed)) (λ e. margin (g.capacity e) (at (loads_of g c) e)) s → Spotted g c s
+  scan_spotted : (s : Option Spot) → Scanned g.E (λ e. not (eqb (at (loads_of g c) e) unfed)) (λ e. margin (g.capacity e) (at (loads_of g c) e)) s → Spotted g c s
   scan_spotted _ (none h) = none_live (λ e r. dark_at e (live_margin g c e r))
     where
       dark_at : (e : ℕ) → (m : ℤ) × MarginOf g c e m → ⊥
@@ -58,21 +58,21 @@ module _ (g : Grid) (formed : Formed g) (few : g.E ≤ 64) (c : Config) (safe : 
   tightest_spotted = scan_spotted (tightest g c) (scanned _ _ g.E)
 
 -- and it is the only one
-pub spotted_unique : (g : Grid) (c : Config) (s s' : Spot) → Spotted g c s → Spotted g c s' → s ≡ s'
+pub spotted_unique : (g : Grid) (c : Config) (s s' : Option Spot) → Spotted g c s → Spotted g c s' → s ≡ s'
 spotted_unique g c _ _ (tightest_at {e = e} {m = m} t) (tightest_at {e = e'} {m = m'} u) =
-    let p = tightest_unique g c e e' m m' t u in ap₂ At p.0 p.1
+    let p = tightest_unique g c e e' m m' t u in ap₂ spot_at p.0 p.1
 spotted_unique g c _ _ (tightest_at {e = e} {m = m} t) (none_live h) = absurd (h e (margin_live g c e m t.own))
 spotted_unique g c _ _ (none_live h) (tightest_at {e = e} {m = m} t) = absurd (h e (margin_live g c e m t.own))
 spotted_unique g c _ _ (none_live h) (none_live k) = refl
 
 -- it exists exactly where some element is live
 module _ (g : Grid) (formed : Formed g) (few : g.E ≤ 64) (c : Config) (safe : Safe g c) (small : total_load g < unfed) where
-  pub spotted_tightest : (s : Spot) → Spotted g c s → s ≡ tightest g c
+  pub spotted_tightest : (s : Option Spot) → Spotted g c s → s ≡ tightest g c
   spotted_tightest s h = spotted_unique g c s (tightest g c) h (tightest_spotted g formed few c safe small)
 
   pub live_tightest : (e : ℕ) → Live g c e → (x : ℕ) × (m : ℤ) × Tightest g c x m
   live_tightest e r = go (tightest g c) (tightest_spotted g formed few c safe small)
     where
-      go : (s : Spot) → Spotted g c s → (x : ℕ) × (m : ℤ) × Tightest g c x m
+      go : (s : Option Spot) → Spotted g c s → (x : ℕ) × (m : ℤ) × Tightest g c x m
       go _ (tightest_at {e = x} {m = m} t) = (x, m, t)
       go _ (none_live h) = absurd (h e r)

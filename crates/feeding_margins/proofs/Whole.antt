@@ -26,6 +26,7 @@ use Rattle.feeding_ends.specs.declared.OwnEnds.{OwnEnds}
 use Rattle.feeding_ends.specs.Ends.{own_ends}
 use Rattle.feeding_loads.specs.Walks.{ends_a, ends_b, walk_grid, Lent, Carries}
 use Rattle.feeding_loads.proofs.Same as Same
+use Rattle.std.specs.Prelude.{Option}
 use Rattle.feeding_margins.specs.declared.Spot.{Spot}
 use Rattle.feeding_margins.specs.Margins.{Spotted, unfed, Fits, loads_stored, loads_of, tightest_in, tightest}
 use Rattle.feeding_margins.proofs.Alike.{Shaped, load_same, loads_same}
@@ -124,14 +125,14 @@ module _ (n : Network) (w : WellFormed n) where
           → Fits loads n.capacity n.elements
       stored_fit loads e = loads_fit loads (e ∙ loads_are)
 
-      pub spot_is : (loads : List ℕ) (r : Spot)
+      pub spot_is : (loads : List ℕ) (r : Option Spot)
           → loads ≡ loads_stored (walk_grid n.elements n.links own.far n.load n.load) (closed_in closed) (is_in sound) (replicate 64 unfed) → r ≡ tightest_in n.elements (at n.capacity) (at loads)
           → r ≡ tightest (net_of n).grid (closed_in closed)
       unfolding tightest net_of grid_of
       spot_is loads r e q = q ∙ ap (λ (xs : List ℕ). tightest_in n.elements (at n.capacity) (at xs)) (e ∙ loads_are)
 
       -- and that is the paper's answer
-      pub spot_told : (loads : List ℕ) (r : Spot)
+      pub spot_told : (loads : List ℕ) (r : Option Spot)
           → loads ≡ loads_stored (walk_grid n.elements n.links own.far n.load n.load) (closed_in closed) (is_in sound) (replicate 64 unfed) → r ≡ tightest_in n.elements (at n.capacity) (at loads)
           → Spotted (net_of n).grid (closed_in closed) r
       spot_told loads r e q = subst (Spotted (net_of n).grid (closed_in closed)) (sym (spot_is loads r e q))

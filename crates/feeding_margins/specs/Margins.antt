@@ -1,18 +1,21 @@
 -- Document 02, item 5: the tightest spot of a configuration.
 -- Internal: no promise to a user is said by it.
 -- Assumes nothing.
-use Rattle.std.specs.Prelude.{◌≡◌, Bool, true, false, not, cond, List, ℕ, zero, suc, ◌<◌, ◌≤◌, ◌*◌, ◌^◌, ℤ, eqb, length, set, replicate}
+use Rattle.std.specs.Prelude.{◌≡◌, Bool, true, false, not, cond, List, ℕ, zero, suc, ◌<◌, ◌≤◌, ◌*◌, ◌^◌, ℤ, eqb, length, set, replicate, Option, Some, None}
 use Rattle.std.specs.Int.Signed.{lt_z}
 use Rattle.feeding.specs.Networks.{Grid, at}
 use Rattle.feeding.specs.Parts.{Config, Live, far, sound?}
 use Rattle.feeding.specs.Loads.{leads, element_load, margin, Tightest}
 use Rattle.feeding_margins.specs.declared.Spot.{Spot}
-use Rattle.feeding_margins.specs.declared.Spot.TheVariants.{Nowhere, At}
+
+-- the element e with the margin m
+abbrev pub spot_at : ℕ → ℤ → Option Spot
+spot_at e m = Some (record { element = e; margin = m })
 
 -- "MARGIN element number .., or MARGIN - if none is live"
-pub data Spotted (g : Grid) (c : Config) : Spot → Type 0 where
-  tightest_at : {e : ℕ} {m : ℤ} → Tightest g c e m → Spotted g c (At e m)
-  none_live : ((e : ℕ) → ¬ Live g c e) → Spotted g c Nowhere
+pub data Spotted (g : Grid) (c : Config) : Option Spot → Type 0 where
+  tightest_at : {e : ℕ} {m : ℤ} → Tightest g c e m → Spotted g c (spot_at e m)
+  none_live : ((e : ℕ) → ¬ Live g c e) → Spotted g c None
 
 -- ---- what computes: the loads by element, stored on one walk from each sound source; then the least margin over the elements
 
@@ -51,18 +54,18 @@ pub record Fits (loads capacity : List ℕ) (n : ℕ) : Type 0 where
   pub loads_in : (e : ℕ) → e < n → (at loads e ≡ unfed → ⊥) → at loads e < 2 ^ 63
 
 -- the tighter of a spot and an element with this margin; the spot on a tie
-unfoldable pub tighter : Spot → ℕ → ℤ → Spot
-tighter Nowhere e m = At e m
-tighter (At x k) e m = cond (lt_z m k) (At e m) (At x k)
+unfoldable pub tighter : Option Spot → ℕ → ℤ → Option Spot
+tighter None e m = spot_at e m
+tighter (Some spot) e m = cond (lt_z m spot.margin) (spot_at e m) (Some spot)
 
 -- over the first n elements, of those that pass the test
-unfoldable pub tightest_to : ℕ → (ℕ → Bool) → (ℕ → ℤ) → Spot
-tightest_to zero test m = Nowhere
+unfoldable pub tightest_to : ℕ → (ℕ → Bool) → (ℕ → ℤ) → Option Spot
+tightest_to zero test m = None
 tightest_to (suc n) test m = elim (test n) [ true ↦ tighter (tightest_to n test m) n (m n) | false ↦ tightest_to n test m ]
 
 -- by the loads of a list
-unfoldable pub tightest_in : (n : ℕ) (capacity loads : ℕ → ℕ) → Spot
+unfoldable pub tightest_in : (n : ℕ) (capacity loads : ℕ → ℕ) → Option Spot
 tightest_in n capacity loads = tightest_to n (λ e. not (eqb (loads e) unfed)) (λ e. margin (capacity e) (loads e))
 
-unfoldable pub tightest : Grid → Config → Spot
+unfoldable pub tightest : Grid → Config → Option Spot
 tightest g c = tightest_in g.E g.capacity (at (loads_of g c))

@@ -25,6 +25,7 @@ pub fn root(parent: &[u8], x: usize) -> usize
 {
     let mut at = x;
     let mut up = parent[at] as usize;
+    // up the parents, so it counts nothing
     while up != at {
         at = up;
         up = parent[at] as usize;
@@ -38,11 +39,9 @@ fn flat(parent: [u8; 64]) -> [u8; 64]
     ensures { result ≡ roots_of parent }
 {
     let mut label = parent;
-    let mut x: usize = 0;
-    while x < 64 {
+    for x in 0..64 {
         let up = label[x] as usize;
         label[x] = label[up];
-        x += 1;
     }
     label
 }
@@ -54,8 +53,7 @@ pub fn parts_of(from: &[u16], to: &[u16], closed: &[u8], links: usize) -> Parts
 {
     let mut parent = OWN;
     let mut looped: [u8; 64] = [0; 64];
-    let mut l: usize = 0;
-    while l < links {
+    for l in 0..links {
         if closed[l] == 1 {
             let a = from[l] as usize;
             let b = to[l] as usize;
@@ -73,26 +71,23 @@ pub fn parts_of(from: &[u16], to: &[u16], closed: &[u8], links: usize) -> Parts
                 parent[b] = y as u8;
             }
         }
-        l += 1;
     }
     let label = flat(parent);
     Parts { label, looped }
 }
 
-// For each label the highest of the first elements with it for which has is 1, or 64.
+// For each label the highest of the first elements with it for which has is 1, or 64, as `last_of_part` in specs/ has it.
 pub fn last_of_part(label: &[u8], has: &[u8], elements: usize) -> [u8; 64]
     requires elements_bound { (elements ≤ 64) × (elements ≤ length label.now) × (elements ≤ length has.now) }
     requires all_below { AllBelow 64 label.now elements }
     ensures { result ≡ last_of_part label.now has.now elements }
 {
     let mut last: [u8; 64] = [64; 64];
-    let mut x: usize = 0;
-    while x < elements {
+    for x in 0..elements {
         if has[x] == 1 {
             let k = label[x] as usize;
             last[k] = x as u8;
         }
-        x += 1;
     }
     last
 }

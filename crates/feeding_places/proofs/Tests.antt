@@ -1,15 +1,16 @@
 -- The tests of the three searches, by the numbers that the code compares.
 -- Assumes nothing.
-use mathlib.Core.Path.{◌≡◌, refl, ◌∙◌}
-use mathlib.Core.Bool.{true, false, and-false}
+use mathlib.Core.Path.{◌≡◌, refl, sym, ◌∙◌}
+use mathlib.Core.Bool.{Bool, true, false, and-false}
 use mathlib.Core.List.{List}
-use Prim.Native.Nat.{ℕ, ◌+◌, ◌<◌, ◌≤◌}
-use native.Mathlib.Nat.{min-eq_left, min-eq_right}
+use Prim.Native.Nat.{ℕ, ◌+◌, ◌-◌, ◌<◌, ◌≤◌, min}
+use native.Mathlib.Nat.{min-eq_left}
 use native.Mathlib.Omega.{arith}
 use borrow.Author.Tests.{eq-eqb, ne_eqb, lt-ltb, le-ltb}
-use Rattle.feeding.specs.Below.{least_to}
+use Rattle.std.specs.Prelude.{Some, None}
+use Rattle.feeding.specs.Below.{least_to, lowest_from, lowest, some_below}
 use Rattle.feeding.specs.Networks.{at, is_in}
-use Rattle.feeding.proofs.Lows.{least_to_step, least_to_top}
+use Rattle.feeding.proofs.Lows.{least_to_step, least_to_top, lowest_stop, lowest_step, lowest_end, some_found, none_found}
 use Rattle.feeding_places.specs.Places.{least_looped, not_last, with_last}
 
 module _ (label sound last : List ℕ) (x : ℕ) where
@@ -38,6 +39,19 @@ module _ (label faulty last : List ℕ) (x : ℕ) where
   unfolding with_last
   with_last_none q = rw (le-ltb (at last (at label x)) 64 q) (and-false (is_in faulty x))
 
+-- a search over the numbers below n that stands at i
+module _ (n i : ℕ) (f : ℕ → Bool) (left : lowest_from (n - i) i f ≡ lowest n f) where
+  pub stops : i < n → f i ≡ true → Some i ≡ some_below n (lowest n f)
+  stops k h =
+      let at-i : lowest n f ≡ i = sym left ∙ lowest_stop n i f k h in
+      rw at-i (sym (some_found n i k))
+
+  pub goes_on : i < n → f i ≡ false → lowest_from (n - (i + 1)) (i + 1) f ≡ lowest n f
+  goes_on k h = sym (lowest_step n i f k h) ∙ left
+
+  pub ends : i ≤ n → n ≤ i → None ≡ some_below n (lowest n f)
+  ends k h = sym (none_found n (lowest n f) (omega (arith, left, lowest_end n i f h k)))
+
 module _ (label looped : List ℕ) (n : ℕ) where
   -- the least label of the first x elements that are marked
   pub least_below : ℕ → ℕ
@@ -51,13 +65,9 @@ module _ (label looped : List ℕ) (n : ℕ) where
   unfolding least_below least_looped
   least_all = refl
 
-  pub least_lower : (x : ℕ) → at looped x ≡ 1 → at label x < least_below x → least_below (x + 1) ≡ at label x
+  pub least_on : (x : ℕ) → at looped x ≡ 1 → least_below (x + 1) ≡ min (least_below x) (at label x)
   unfolding least_below
-  least_lower x p q = least_to_step x n _ ∙ rw (eq-eqb (at looped x) 1 p) (min-eq_right (omega arith))
-
-  pub least_kept : (x : ℕ) → at looped x ≡ 1 → least_below x ≤ at label x → least_below (x + 1) ≡ least_below x
-  unfolding least_below
-  least_kept x p q = least_to_step x n _ ∙ rw (eq-eqb (at looped x) 1 p) (min-eq_left q)
+  least_on x p = least_to_step x n _ ∙ rw (eq-eqb (at looped x) 1 p) refl
 
   pub least_off : (x : ℕ) → (at looped x ≡ 1 → ⊥) → least_below (x + 1) ≡ least_below x
   unfolding least_below

@@ -25,8 +25,7 @@ pub fn joined_to<'a>(
     ensures { result ≡ bits 96 elements (joined_to from.now to.now closed.now has.now elements links) }
 {
     let parts = parts_of(from, to, closed, links);
-    let label = parts.label;
-    spread(&label, has, elements)
+    spread(&parts.label, has, elements)
 }
 
 // `fixed` has the fixed links, `faulty` the faulty elements.
@@ -36,15 +35,19 @@ pub fn restorable_elements<'a>(net: Network, fixed: &'a [u8; 96], faulty: &'a [u
     requires faulty_value { faulty.now ≡ bits 96 net.elements (net_of net).grid.faulty }
     ensures { result ≡ bits 96 net.elements (restorable? (net_of net)) }
 {
-    let from = net.from;
-    let to = net.to;
-    let flags = net.flags;
-    let spoiled = joined_to(&from, &to, fixed, faulty, net.elements, net.links);
-    let touched = at_either_end(&from, &to, &spoiled, net.links);
+    let spoiled = joined_to(&net.from, &net.to, fixed, faulty, net.elements, net.links);
+    let touched = at_either_end(&net.from, &net.to, &spoiled, net.links);
     let all: [u8; 96] = [1; 96];
     let clean = except(&all, &touched, net.links);
-    let source = members_of(&flags, 1, 3, net.elements);
+    let source = members_of(&net.flags, 1, 3, net.elements);
     let unspoiled = except(&source, &spoiled, net.elements);
-    let reached = joined_to(&from, &to, &clean, &unspoiled, net.elements, net.links);
+    let reached = joined_to(
+        &net.from,
+        &net.to,
+        &clean,
+        &unspoiled,
+        net.elements,
+        net.links,
+    );
     except(&reached, &spoiled, net.elements)
 }

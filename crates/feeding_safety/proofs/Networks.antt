@@ -1,6 +1,6 @@
 -- A well-formed network meets what a check asks, whatever the states.
 -- Assumes nothing.
-use mathlib.Core.Path.{◌≡◌, ap, ◌∙◌}
+use mathlib.Core.Path.{◌≡◌, ap}
 use mathlib.Core.Bool.{Bool, true}
 use mathlib.Core.List.{List}
 use Prim.Native.Nat.{ℕ, ◌<◌}
@@ -24,17 +24,6 @@ module _ (n : Network) (w : WellFormed n) where
   two_ends has long =
       Same.two_ends n.elements n.links n.load n.capacity n.flags n.from n.to (formed_net n w) w.elements_fit w.links_fit has
       (omega (arith, w.from_long, w.links_fit)) (omega (arith, w.to_long, w.links_fit)) (omega (arith, w.links_fit))
-
-  -- how long the lists of chained ends are
-  pub own_wide : (has : ℕ → Bool) (own : OwnEnds) → own ≡ own_ends (at n.from) (at n.to) has n.links
-      → (length own.head ≡ 64) × ((length own.next ≡ 192) × (length own.far ≡ 192))
-  own_wide has own o = (
-    ap (λ (x : OwnEnds). length x.head) o ∙ Same.head_length (at n.from) (at n.to) has n.links w.links_fit,
-    (
-      ap (λ (x : OwnEnds). length x.next) o ∙ Same.next_length (at n.from) (at n.to) has n.links w.links_fit,
-      ap (λ (x : OwnEnds). length x.far) o ∙ Same.far_length (at n.from) (at n.to) has n.links w.links_fit,
-    ),
-  )
 
   -- with the ends chained of a set that has all closed links
   pub checked : (has : ℕ → Bool) (own : OwnEnds) (states : List ℕ) → own ≡ own_ends (at n.from) (at n.to) has n.links

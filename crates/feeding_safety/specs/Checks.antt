@@ -1,15 +1,19 @@
 -- A refusal as an answer, and what the lists that are lent for a check must hold.
 -- Internal: no promise to a user is said by it.
 -- Assumes nothing.
-use Rattle.std.specs.Prelude.{◌≡◌, List, ℕ, ◌^◌, ◌<◌, ◌≤◌, length}
+use Rattle.std.specs.Prelude.{◌≡◌, List, ℕ, ◌^◌, ◌<◌, ◌≤◌, length, Option, Some, None, Result, Ok, Err}
+use Rattle.network.specs.declared.refusal.Refusal.{Refusal}
 use Rattle.network.specs.declared.refusal.Rule.{Rule}
-use Rattle.network.specs.declared.refusal.Answer.{Answer}
-use Rattle.network.specs.declared.refusal.Answer.TheVariants.{Refused}
 use Rattle.feeding.specs.Networks.{Formed, grid_of, at}
 use Rattle.feeding_loads.specs.Walks.{ends_a, ends_b, Lent}
 
-unfoldable pub refused : Rule → ℕ → Answer
-refused r p = Refused (record { rule = r; place = p })
+abbrev pub refused : Rule → ℕ → Result Unit Refusal
+refused r p = Err (record { rule = r; place = p })
+
+-- what a rule answers by the place that breaks it
+unfoldable pub unbroken : Rule → Option ℕ → Result Unit Refusal
+unbroken r (Some p) = refused r p
+unbroken r None = Ok tt
 
 -- the lists hold a formed grid within the limits, its loads below 2 ^ 32, and chained ends of its links that skip no closed one
 pub record Checked (load capacity flags from to head next far closed : List ℕ) (E K : ℕ) : Type 0 where

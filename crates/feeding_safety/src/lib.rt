@@ -10,19 +10,23 @@ ghost use Rattle.feeding.specs.Below.{bits};
 ghost use Rattle.feeding_ends.specs.Ends.{own_ends};
 ghost use Rattle.feeding_parts.specs.Labelling.{parts_of};
 ghost use Rattle.feeding_sets.specs.Sets.{one_of};
-ghost use Rattle.feeding_safety.specs.Checks.{refused};
+ghost use Rattle.feeding_safety.specs.Checks.{unbroken};
 
 use feeding_ends::OwnEnds;
-use feeding_loads::over_place;
+use feeding_loads::{Lists, over_place};
 use feeding_parts::{Parts, last_of_part};
 use feeding_places::{fault_place, pair_place, tree_place};
 use network::Network;
-use network::refusal::{Answer, Refusal, Rule};
+use network::refusal::{Refusal, Rule};
 
-fn broken(rule: Rule, place: usize) -> Answer
-    ensures { result ≡ refused rule place }
+// A rule is unbroken where no place breaks it.
+fn unbroken(rule: Rule, place: Option<usize>) -> Result<(), Refusal>
+    ensures { result ≡ unbroken rule place }
 {
-    Answer::Refused(Refusal { rule, place })
+    match place {
+        Some(place) => Err(Refusal { rule, place }),
+        None => Ok(()),
+    }
 }
 
 // The first of rules 14 to 17 that the configuration breaks; closed[l] is 1 for a closed link, `own` has the ends of all links, `sound` the sound sources,
@@ -34,7 +38,7 @@ pub fn check<'a>(
     sound: &'a [u8],
     faulty: &'a [u8],
     parts: Parts,
-) -> Answer
+) -> Result<(), Refusal>
     requires well_formed { WellFormed net }
     requires own_value { own ≡ own_ends (at net.from) (at net.to) (is_in (replicate 96 1)) net.links }
     requires closed_len { length closed.now ≡ 96 }
@@ -43,39 +47,22 @@ pub fn check<'a>(
     requires parts_value { parts ≡ parts_of net.from net.to closed.now net.links }
     ensures { result ≡ safety (net_of net).grid (closed_in closed.now) }
 {
-    let label = parts.label;
-    let looped = parts.looped;
-    let tree = tree_place(&label, &looped, net.elements);
-    if tree < net.elements {
-        return broken(Rule::NotATree, tree);
-    }
-    let last = last_of_part(&label, sound, net.elements);
-    let pair = pair_place(&label, sound, &last, net.elements);
-    if pair < net.elements {
-        return broken(Rule::TwoSources, pair);
-    }
-    let fault = fault_place(&label, faulty, &last, net.elements);
-    if fault < net.elements {
-        return broken(Rule::FaultWithSource, fault);
-    }
-    let head = own.head;
-    let next = own.next;
-    let far = own.far;
-    let load = net.load;
-    let capacity = net.capacity;
-    let over = over_place(
-        &head,
-        &next,
-        &far,
+    let tree = tree_place(&parts.label, &parts.looped, net.elements);
+    unbroken(Rule::NotATree, tree)?;
+    let last = last_of_part(&parts.label, sound, net.elements);
+    let pair = pair_place(&parts.label, sound, &last, net.elements);
+    unbroken(Rule::TwoSources, pair)?;
+    let fault = fault_place(&parts.label, faulty, &last, net.elements);
+    unbroken(Rule::FaultWithSource, fault)?;
+    let lists = Lists {
+        head: &own.head,
+        next: &own.next,
+        far: &own.far,
         closed,
-        &load,
-        &capacity,
-        sound,
-        net.elements,
-        net.links,
-    );
-    if over < net.elements {
-        return broken(Rule::Overloaded, over);
-    }
-    Answer::Accepted
+        load: &net.load,
+        elements: net.elements,
+        links: net.links,
+    };
+    let over = over_place(&lists, &net.capacity, sound);
+    unbroken(Rule::Overloaded, over)
 }

@@ -1,14 +1,17 @@
 -- What each test of the loops tells of the number that it is at: the definitions of `specs/Sets` by their cases.
 -- Assumes nothing.
-use Prim.Native.Nat.{ℕ, ◌+◌, ◌≤◌, ◌<◌}
+use Prim.Native.Nat.{ℕ, zero, suc, ◌≤◌, ◌<◌}
 use mathlib.Core.Path.{◌≡◌, refl, sym, ap, ◌∙◌}
-use mathlib.Core.Bool.{true, false, ◌&&◌, or-true}
+use mathlib.Core.Bool.{Bool, true, false, ◌&&◌, or-true, cond}
 use mathlib.Core.List.{List}
 use lib.Dec.{ltb}
-use lib.ListN.{length}
+use lib.ListN.{length, take}
 use borrow.Author.Tests.{eq-eqb, ne_eqb, lt-ltb, le-ltb}
 use native.Mathlib.Omega.{arith}
-use Rattle.feeding.specs.Below.{those}
+use native.Mathlib.Numerals.{add-one}
+use Rattle.std.specs.Prelude.{count_by, ◌==◌}
+use Rattle.std.proofs.lemmas.List.Sums.{sum_by_more}
+use Rattle.feeding.specs.Below.{gate, those}
 use Rattle.feeding.specs.Networks.{at, is_in}
 use Rattle.feeding.proofs.Below.{eqb_comm, any_to_ext}
 use Rattle.feeding.proofs.Lows.{length_those_step}
@@ -77,21 +80,20 @@ module _ (from to has : List ℕ) (l : ℕ) where
 
 -- ---- the number of members
 
-module _ (has : List ℕ) where
-  pub count_none : length (members has 0) ≡ 0
-  unfolding members those
-  count_none = refl
+cond_gate : (t : Bool) → cond t 1 0 ≡ gate t 1
+cond_gate true = refl
+cond_gate false = refl
 
-  pub count_on : (x sum sum' : ℕ) → sum ≡ length (members has x) → at has x ≡ 1 → sum' ≡ sum + 1 → sum' ≡ length (members has (x + 1))
-  unfolding members
-  count_on x sum sum' p on q =
-      let step : length (those (x + 1) (is_in has)) ≡ length (those x (is_in has)) + 1 =
-      rw (eq-eqb (at has x) 1 on) at (length_those_step x (is_in has)) in
-      omega arith
-
-  pub count_off : (x sum sum' : ℕ) → sum ≡ length (members has x) → (at has x ≡ 1 → ⊥) → sum' ≡ sum → sum' ≡ length (members has (x + 1))
-  unfolding members
-  count_off x sum sum' p off q =
-      let step : length (those (x + 1) (is_in has)) ≡ length (those x (is_in has)) + 0 =
-      rw (ne_eqb (at has x) 1 off) at (length_those_step x (is_in has)) in
-      omega arith
+pub counted : (has : List ℕ) (n : ℕ) → n ≤ length has → count_by (λ x. x == 1) (take n has) ≡ length (members has n)
+unfolding members those
+counted has zero k = refl
+counted has (suc n) k =
+    ap (λ m. count_by (λ x. x == 1) (take m has)) (sym (add-one n))
+    ∙ omega (
+      arith,
+      sum_by_more (λ x. cond (x == 1) 1 0) has n 0 (omega arith),
+      counted has n (omega arith),
+      length_those_step n (is_in has),
+      cond_gate (is_in has n),
+    )
+    ∙ ap (λ m. length (members has m)) (add-one n)

@@ -1,4 +1,5 @@
-// Sets of elements or links as arrays, 1 for a member and 0 for the others; each function makes one in one pass.
+// Sets of elements or links as arrays, 1 for a member and 0 for the others, as `bits` and `is_in` in the theorems' definitions have them
+// (docs/DECISIONS.md, 30); each function makes one in one pass.
 #![tactic(auto)]
 
 ghost use Rattle.std.specs.Prelude.{◌≡◌, ◌<◌, length};
@@ -13,15 +14,11 @@ pub fn members_of(values: &[u16], one: u16, other: u16, count: usize) -> [u8; 96
     ensures { result ≡ bits 96 count (one_of values.now one other) }
 {
     let mut out: [u8; 96] = [0; 96];
-    let mut x: usize = 0;
-    while x < count {
+    for x in 0..count {
         let value = values[x];
-        if value == one {
-            out[x] = 1;
-        } else if value == other {
+        if value == one || value == other {
             out[x] = 1;
         }
-        x += 1;
     }
     out
 }
@@ -33,14 +30,10 @@ pub fn except(yes: &[u8], no: &[u8], count: usize) -> [u8; 96]
     ensures { result ≡ bits 96 count (but_not yes.now no.now) }
 {
     let mut out: [u8; 96] = [0; 96];
-    let mut x: usize = 0;
-    while x < count {
-        if yes[x] == 1 {
-            if no[x] != 1 {
-                out[x] = 1;
-            }
+    for x in 0..count {
+        if yes[x] == 1 && no[x] != 1 {
+            out[x] = 1;
         }
-        x += 1;
     }
     out
 }
@@ -52,13 +45,11 @@ pub fn spread(label: &[u8], has: &[u8], elements: usize) -> [u8; 96]
 {
     let last = last_of_part(label, has, elements);
     let mut out: [u8; 96] = [0; 96];
-    let mut x: usize = 0;
-    while x < elements {
+    for x in 0..elements {
         let k = label[x] as usize;
         if last[k] < 64 {
             out[x] = 1;
         }
-        x += 1;
     }
     out
 }
@@ -69,16 +60,12 @@ pub fn at_either_end(from: &[u16], to: &[u16], has: &[u8], links: usize) -> [u8;
     ensures { result ≡ bits 96 links (at_either_end from.now to.now has.now) }
 {
     let mut out: [u8; 96] = [0; 96];
-    let mut l: usize = 0;
-    while l < links {
+    for l in 0..links {
         let a = from[l] as usize;
         let b = to[l] as usize;
-        if has[a] == 1 {
-            out[l] = 1;
-        } else if has[b] == 1 {
+        if has[a] == 1 || has[b] == 1 {
             out[l] = 1;
         }
-        l += 1;
     }
     out
 }
@@ -88,13 +75,5 @@ pub fn count_of(has: &[u8], count: usize) -> usize
     requires { Reach has.now count }
     ensures { result ≡ length (members has.now count) }
 {
-    let mut sum: usize = 0;
-    let mut x: usize = 0;
-    while x < count {
-        if has[x] == 1 {
-            sum = sum + 1;
-        }
-        x += 1;
-    }
-    sum
+    has[..count].iter().filter(|x| **x == 1).count()
 }

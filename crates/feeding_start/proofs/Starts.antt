@@ -7,20 +7,18 @@ use Prim.Native.Nat.{ℕ, ◌<◌}
 use native.Mathlib.Omega.{arith}
 use lib.Dec.{ltb}
 use borrow.Author.Tests.{ltb-true, ltb-false}
-use lib.ListN.{length, replicate}
+use lib.ListN.{length}
 use Rattle.network.specs.declared.Network.{Network}
 use Rattle.network.specs.Accepted.{WellFormed}
-use Rattle.network.specs.Networks.{empty_network}
 use Rattle.feeding.specs.Acceptance.{Starts}
 use Rattle.feeding.specs.Below.{bits}
-use Rattle.feeding.specs.Networks.{net_of, grid_of, at, is_in}
+use Rattle.feeding.specs.Networks.{net_of, grid_of, is_in}
 use Rattle.feeding.specs.Parts.{closed_in, sound?, live?}
 use Rattle.feeding.specs.Restoration.{restorable?, operable?, operables, operables_by}
-use Rattle.feeding.proofs.Bits.{bits_none, bits_ext, is_in_beyond}
+use Rattle.feeding.proofs.Bits.{bits_ext, is_in_beyond}
 use Rattle.feeding.proofs.Tests.{operable?_out}
 use Rattle.feeding.proofs.Views.{formed_net}
 use Rattle.feeding_ends.specs.declared.OwnEnds.{OwnEnds}
-use Rattle.feeding_ends.specs.Ends.{TwoEnds, own_ends}
 use Rattle.feeding_parts.specs.Labelling.{parts_of}
 use Rattle.feeding_sets.specs.Sets.{PartsReach, part_has, members}
 use Rattle.feeding_restoration.proofs.Reach.{parts_reach}
@@ -58,37 +56,6 @@ pub start_is : (n : Network) (own : OwnEnds) (closed sound faulty live restorabl
     → record { net = n; own = own; closed = closed; sound = sound; faulty = faulty; live = live; restorable = restorable; operable = operable } ≡ start_of n
 unfolding start_with
 start_is n own closed sound faulty live restorable operable o c s f v r p = rw (o, c, s, f, v, r, p)
-
--- the start of the empty network
-pub none_is : (n : Network) → n ≡ empty_network → (own : OwnEnds) → own ≡ all_ends empty_network
-    → record {
-      net = n;
-      own = own;
-      closed = replicate 96 0;
-      sound = replicate 96 0;
-      faulty = replicate 96 0;
-      live = replicate 96 0;
-      restorable = replicate 96 0;
-      operable = replicate 96 0;
-    } ≡ start_of empty_network
-unfolding empty_network
-none_is n e own o = rw e (start_is empty_network own _ _ _ _ _ _ o (bits_none 96 _) (bits_none 96 _) (bits_none 96 _) (bits_none 96 _) (bits_none 96 _) (bits_none 96 _))
-
-module _ (n : Network) (e : n ≡ empty_network) where
-  pub none_ends : TwoEnds n.from n.to (replicate 96 1) 0
-  none_ends = record {
-    fit = omega arith;
-    from_long = omega arith;
-    to_long = omega arith;
-    has_long = omega arith;
-    from_in = λ l k. absurd (omega arith);
-    to_in = λ l k. absurd (omega arith);
-    differ = λ l k _. absurd (omega arith);
-  }
-
-  pub none_own : own_ends (at n.from) (at n.to) (is_in (replicate 96 1)) 0 ≡ all_ends empty_network
-  unfolding empty_network
-  none_own = ap (λ (x : Network). own_ends (at x.from) (at x.to) (is_in (replicate 96 1)) 0) e
 
 -- the fields of a start, whichever switches are operable in it
 module _ (s : Start) (op : ℕ → Bool) (made : s ≡ start_with s.net op) where

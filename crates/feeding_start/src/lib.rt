@@ -3,14 +3,13 @@
 
 ghost use Rattle.std.specs.Prelude.{◌≡◌};
 ghost use Rattle.network.specs.Accepted.{WellFormed};
-ghost use Rattle.network.specs.Networks.{empty_network};
 ghost use Rattle.feeding.specs.Below.{bits};
 ghost use Rattle.feeding.specs.Networks.{net_of};
 ghost use Rattle.feeding.specs.Parts.{sound?};
 ghost use Rattle.feeding_parts.specs.Labelling.{parts_of};
 ghost use Rattle.feeding_start.specs.Starting.{all_ends, start_of};
 
-use feeding_ends::{OwnEnds, own_ends};
+use feeding_ends::OwnEnds;
 use feeding_restoration::restorable_elements;
 use feeding_sets::{at_either_end, except, members_of, spread};
 use network::Network;
@@ -27,30 +26,6 @@ pub struct Start {
     pub live: [u8; 96],
     pub restorable: [u8; 96],
     pub operable: [u8; 96],
-}
-
-impl Start {
-    // That of the empty network, which stands in for one that is refused.
-    pub fn none() -> Start
-        ensures { result ≡ start_of empty_network }
-    {
-        let net = Network::empty();
-        let set: [u8; 96] = [0; 96];
-        let all: [u8; 96] = [1; 96];
-        let from = net.from;
-        let to = net.to;
-        let own = own_ends(&from, &to, &all, 0);
-        Start {
-            net,
-            own,
-            closed: set,
-            sound: set,
-            faulty: set,
-            live: set,
-            restorable: set,
-            operable: set,
-        }
-    }
 }
 
 // From the ends of all links, the states at the start, the labels of their parts, the sound sources and the faulty elements. A switch is operable where

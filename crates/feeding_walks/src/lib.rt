@@ -1,44 +1,31 @@
-// The lists of a walk in two arrays, so that a walk passes few pointers on; made once per network.
+// What walks go over; made once per network, and lent whole, so that a walk passes one pointer on.
 #![tactic(auto)]
 
-ghost use Rattle.std.specs.Prelude.{◌≡◌, length};
-ghost use Rattle.feeding_walks.specs.Packing.{packed_ends, packed_rating};
+ghost use Rattle.std.specs.Prelude.{◌≡◌};
+ghost use Rattle.feeding_walks.specs.Walking.{walk_of};
 
 use feeding_ends::OwnEnds;
+use network::Network;
 
-// The chained ends as one array: the heads, from 64 on the nexts, from 256 on the far elements.
-pub fn packed_ends(own: OwnEnds) -> [u8; 448]
-    ensures { result ≡ packed_ends own }
-{
-    let head = own.head;
-    let next = own.next;
-    let far = own.far;
-    let mut out: [u8; 448] = [0; 448];
-    let mut i: usize = 0;
-    while i < 64 {
-        out[i] = head[i];
-        out[64 + i] = next[i];
-        out[128 + i] = next[64 + i];
-        out[192 + i] = next[128 + i];
-        out[256 + i] = far[i];
-        out[320 + i] = far[64 + i];
-        out[384 + i] = far[128 + i];
-        i += 1;
-    }
-    out
+// The chained ends of the links, the loads and capacities, and how many elements and links there are.
+#[derive(Clone, Copy)]
+pub struct Walk {
+    pub own: OwnEnds,
+    pub load: [u32; 64],
+    pub capacity: [u32; 64],
+    pub elements: usize,
+    pub links: usize,
 }
 
-// Loads and capacities as one array: the loads, from 64 on the capacities.
-pub fn packed_rating(load: &[u32], capacity: &[u32]) -> [u32; 128]
-    requires { (length load.now ≡ 64) × (length capacity.now ≡ 64) }
-    ensures { result ≡ packed_rating load.now capacity.now }
+// The walk over a network with these ends.
+pub fn walk_of(net: &Network, own: OwnEnds) -> Walk
+    ensures { result ≡ walk_of net.now own }
 {
-    let mut out: [u32; 128] = [0; 128];
-    let mut i: usize = 0;
-    while i < 64 {
-        out[i] = load[i];
-        out[64 + i] = capacity[i];
-        i += 1;
+    Walk {
+        own,
+        load: net.load,
+        capacity: net.capacity,
+        elements: net.elements,
+        links: net.links,
     }
-    out
 }

@@ -4,7 +4,7 @@ use Rattle.std.specs.Prelude.{Bool, true, false, not, ◌&&◌, List, [], ◌∷
 use Rattle.network.specs.declared.refusal.Rule.TheVariants.{HeadOutOfRange, UnknownFlags, BadEnds, UnknownForm, UnsuitedCost, TooManySteps, UnknownLink, UnknownState, BadGuard}
 use Rattle.network.specs.Refusals.{Check, check, pick}
 use Rattle.network.specs.Accepted.{suits}
-use Rattle.file_fields.specs.declared.Seen.{Seen}
+use Rattle.file_fields.specs.Views.{Seen}
 
 -- "Numbers are unsigned, two bytes, low byte first"
 unfoldable pub word : List ℕ → ℕ → ℕ

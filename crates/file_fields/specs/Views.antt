@@ -3,11 +3,21 @@
 -- Assumes nothing.
 use Rattle.std.specs.Prelude.{List, ℕ, replicate}
 use Rattle.network.specs.declared.Network.{Network}
-use Rattle.file_fields.specs.declared.Seen.{Seen}
+use Rattle.file_fields.specs.declared.Seen as lent
+
+-- what was read before: how many elements and links the network has so far, and the links' forms
+pub record Seen : Type 0 where
+  pub elements : ℕ
+  pub links : ℕ
+  pub form : List ℕ
 
 -- what was read before, in its parts
 abbrev pub seen_of : ℕ → ℕ → List ℕ → Seen
 seen_of elements links form = record { elements = elements; links = links; form = form }
+
+-- what the code's `Seen` lends
+abbrev pub seen_in : lent.Seen → Seen
+seen_in seen = seen_of seen.elements seen.links seen.form.now
 
 -- heads, elements and ends: nothing is asked
 unfoldable pub nothing_seen : Seen

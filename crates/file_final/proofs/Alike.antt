@@ -19,7 +19,8 @@ use Rattle.file_plan.specs.PlanFiles.{plan_file}
 use Rattle.file_plan.specs.Inputs.{plan_input}
 use Rattle.file_plan.proofs.Sizes.{plan_longest, plan_size, plan_input_size}
 use Rattle.file_plan.proofs.Alike.{plan_looks, plan_looked, plan_look_most, plan_alike, plan_input_looks, plan_input_from, plan_input_look_most, plan_input_alike}
-use Rattle.file_final.specs.Inputs.{TwoPlans, two_plans, counted_on, second_behind, second_behind_by, plans_behind, plans_behind_by, final_input, final_input_by, second_lent, second_lent_by, plans_lent, plans_lent_by, files_input, files_input_by}
+use Rattle.file_final.specs.declared.FinalRead.{FinalRead}
+use Rattle.file_final.specs.Inputs.{two_plans, counted_on, second_behind, second_behind_by, plans_behind, plans_behind_by, final_input, final_input_by, second_lent, second_lent_by, plans_lent, plans_lent_by, files_input, files_input_by}
 
 -- how far the plan files look, and the whole input
 unfoldable pub plans_look : List ℕ → ℕ → ℕ → ℕ
@@ -66,7 +67,7 @@ module _ (s t : List ℕ) (upto : ℕ) where
       (plan_input_alike s t upto n.links middle middle same far)
       (λ i stage q q' e r. reached_here (middle + i) (middle + i) stage (two (middle + i) q) (two (middle + i) q') (ap (two (middle + i)) r))
     where
-      two : ℕ → Plan → TwoPlans
+      two : ℕ → Plan → FinalRead
       two end q = record { net = n; first = p; second = q; start = start; middle = middle; end = end }
 
   plans_alike : (n : Network) (at : ℕ) → SameFrom s t at at upto → plans_look s n.links at ≤ upto → Moved ◌≡◌ at at (plans_behind s at n) (plans_behind t at n)

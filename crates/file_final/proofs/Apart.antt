@@ -22,7 +22,8 @@ use Rattle.file_plan.specs.Inputs.{plan_input, plan_input_by}
 use Rattle.file_plan.proofs.Sizes.{plan_input_size, plan_size}
 use Rattle.file_plan.proofs.Alike.{plan_looked, plan_alike, plan_followed, plan_behind_alike}
 use Rattle.file_both.specs.Inputs.{paired, plan_behind, plan_behind_by, both_input, both_input_by}
-use Rattle.file_final.specs.Inputs.{TwoPlans, two_plans, counted_on, second_behind, second_behind_by, plans_behind, plans_behind_by, final_input, final_input_by, second_lent, second_lent_by, plans_lent, plans_lent_by, files_input, files_input_by}
+use Rattle.file_final.specs.declared.FinalRead.{FinalRead}
+use Rattle.file_final.specs.Inputs.{two_plans, counted_on, second_behind, second_behind_by, plans_behind, plans_behind_by, final_input, final_input_by, second_lent, second_lent_by, plans_lent, plans_lent_by, files_input, files_input_by}
 use Rattle.file_final.proofs.Sizes.{counted_reached, FinalFiles, final_files, final_size, apart_files}
 
 -- ---- a file behind others is read as it is alone, its places counted on
@@ -114,7 +115,7 @@ parts_join s start middle h k =
     ap (take start) (sym (take-append-drop middle s)) ∙ take-append-le start (take middle s) (drop middle s) (omega (arith, length-take-le middle s k)) in
     ap (λ (x : List ℕ). x ++ slice start middle s) front ∙ take-append-drop start (take middle s)
 
-module _ (s : List ℕ) (at : ℕ) (stage : Stage) (v : TwoPlans) (h : final_input s ≡ reached at stage v) where
+module _ (s : List ℕ) (at : ℕ) (stage : Stage) (v : FinalRead) (h : final_input s ≡ reached at stage v) where
   files : FinalFiles s at stage v
   files = final_files s at stage v h
 
@@ -192,11 +193,11 @@ made_alone network file at stage n at' stage' p h h' =
     }
 
 -- "sets two plan files against one network": lent apart, each is read as it is behind the network file
-pub record FilesJudged (network first second : List ℕ) (v : TwoPlans) : Type 0 where
+pub record FilesJudged (network first second : List ℕ) (v : FinalRead) : Type 0 where
   pub first_judged : ReadAlone (network ++ first) v.net v.first
   pub second_judged : ReadAlone (network ++ second) v.net v.second
 
-pub files_judged : (network first second : List ℕ) (at : ℕ) (stage : Stage) (v : TwoPlans) → files_input network first second ≡ reached at stage v
+pub files_judged : (network first second : List ℕ) (at : ℕ) (stage : Stage) (v : FinalRead) → files_input network first second ≡ reached at stage v
     → FilesJudged network first second v
 files_judged network first second at stage v h =
     let f = apart_files network first second at stage v h in
@@ -206,11 +207,11 @@ files_judged network first second at stage v h =
     }
 
 -- and in one input: the input that has only the first plan file behind the network, and the one that has only the second
-pub record FinalJudged (s : List ℕ) (v : TwoPlans) : Type 0 where
+pub record FinalJudged (s : List ℕ) (v : FinalRead) : Type 0 where
   pub first_judged : ReadAlone (take v.middle s) v.net v.first
   pub second_judged : ReadAlone (take v.start s ++ drop v.middle s) v.net v.second
 
-pub final_judged : (s : List ℕ) (at : ℕ) (stage : Stage) (v : TwoPlans) → final_input s ≡ reached at stage v → FinalJudged s v
+pub final_judged : (s : List ℕ) (at : ℕ) (stage : Stage) (v : FinalRead) → final_input s ≡ reached at stage v → FinalJudged s v
 final_judged s at stage v h =
     let j = files_judged (take v.start s) (slice v.start v.middle s) (drop v.middle s) at stage v (final_parts s at stage v h) in
     record {

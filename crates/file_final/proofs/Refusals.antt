@@ -26,7 +26,8 @@ use Rattle.file_plan.proofs.Sizes.{plan_size}
 use Rattle.file_refusals.specs.Files.{Stand, FirstBreak, network_stages, plan_stages, NetworkStands, PlanStands, PlanBreaks, KeepsNetwork}
 use Rattle.file_refusals.proofs.Files.{stand_once, break_once, stand_unbroken, Ran}
 use Rattle.file_refusals.proofs.Inputs.{network_ran, plan_ran, network_refused, network_kept, reached_keeps}
-use Rattle.file_final.specs.Inputs.{TwoPlans, two_plans, counted_on, second_behind_by, plans_behind, plans_behind_by, final_input, final_input_by, second_lent_by, plans_lent, plans_lent_by, files_input, files_input_by}
+use Rattle.file_final.specs.declared.FinalRead.{FinalRead}
+use Rattle.file_final.specs.Inputs.{two_plans, counted_on, second_behind_by, plans_behind, plans_behind_by, final_input, final_input_by, second_lent_by, plans_lent, plans_lent_by, files_input, files_input_by}
 use Rattle.file_final.specs.Finals.{FirstBrokenFinal, in_network_part, in_first_part, in_second_part, behind_second, FirstBrokenPlan, in_plan_file, behind_plan_file, KeepsPlan, FirstBrokenFiles, in_network_file, in_first_file, in_second_file}
 use Rattle.file_final.proofs.Apart.{closed_at, same_reply}
 
@@ -64,7 +65,7 @@ module _ (s : List ℕ) where
   plan_broken {at} x = ran_broken s (word s 4) (word s 6) (plan_file s (word s 6) at) (plan_ran s (word s 4) (word s 6) at) x
 
   -- the plan files in the network of the head's counts
-  plans_in : {start : ℕ} (w : ReadTo (network_file s) start) (o : Reading TwoPlans)
+  plans_in : {start : ℕ} (w : ReadTo (network_file s) start) (o : Reading FinalRead)
       → read_on (plan_file s (word s 6) start) (λ middle stage p. read_on (read_on (plan_file s (word s 6) middle) (closed s)) (two_plans w.value start middle p)) ≡ o
       → final_input s ≡ o
   unfolding final_input_by plans_behind_by second_behind_by plan_input_by
@@ -73,7 +74,7 @@ module _ (s : List ℕ) where
       ∙ subst (λ (k : ℕ). read_on (plan_file s k start) (λ middle stage p. read_on (read_on (plan_file s k middle) (closed s)) (two_plans w.value start middle p)) ≡ o)
       (sym (network_size s start w.stage w.value w.is).links.links_are) e
 
-  pub second_in : {start middle : ℕ} (w : ReadTo (network_file s) start) (x : ReadTo (plan_file s (word s 6) start) middle) (o : Reading TwoPlans)
+  pub second_in : {start middle : ℕ} (w : ReadTo (network_file s) start) (x : ReadTo (plan_file s (word s 6) start) middle) (o : Reading FinalRead)
       → read_on (read_on (plan_file s (word s 6) middle) (closed s)) (two_plans w.value start middle x.value) ≡ o → final_input s ≡ o
   second_in {start} w x o e =
       plans_in w o
@@ -105,7 +106,7 @@ module _ (s : List ℕ) where
     pub first : PlanStands s start middle
     pub second : PlanStands s middle (length s)
 
-  abbrev FinalAs : Reading TwoPlans → Type 0
+  abbrev FinalAs : Reading FinalRead → Type 0
   FinalAs (refused f) = FirstBrokenFinal s f
   FinalAs (reached at stage v) = KeepsFinal v.start v.middle
 
@@ -200,7 +201,7 @@ links_stated network at stage n e =
 
 module _ (network first second : List ℕ) where
   -- the plan files behind a network file that is read
-  plans_apart : (at : ℕ) (stage : Stage) (n : Network) → network_input network ≡ reached at stage n → (o : Reading TwoPlans)
+  plans_apart : (at : ℕ) (stage : Stage) (n : Network) → network_input network ≡ reached at stage n → (o : Reading FinalRead)
       → read_on (counted_on (length network) (plan_input first (word network 6) 0))
       (λ at stage p. read_on (counted_on (length network + length first) (plan_input second (word network 6) 0)) (two_plans n (length network) (length network + length first) p)) ≡ o
       → files_input network first second ≡ o
@@ -212,7 +213,7 @@ module _ (network first second : List ℕ) where
       (sym (links_stated network at stage n e)) h
 
   pub second_apart : (at : ℕ) (stage : Stage) (n : Network) → network_input network ≡ reached at stage n → (x : ReadTo (plan_input first (word network 6) 0) (length first))
-      → (o : Reading TwoPlans)
+      → (o : Reading FinalRead)
       → read_on (counted_on (length network + length first) (plan_input second (word network 6) 0)) (two_plans n (length network) (length network + length first) x.value) ≡ o
       → files_input network first second ≡ o
   second_apart at stage n e x o h =
@@ -238,7 +239,7 @@ module _ (network first second : List ℕ) where
       (ap (λ (y : Reading Plan). read_on (counted_on (length network + length first) y) (two_plans r.2 (length network) (length network + length first) w.value))
       (plan_alone_broken second (word network 4) (word network 6) x))
 
-  abbrev FilesAs : Reading TwoPlans → Type 0
+  abbrev FilesAs : Reading FinalRead → Type 0
   FilesAs (refused f) = FirstBrokenFiles network first second f
   FilesAs (reached at stage v) = Unit {0}
 

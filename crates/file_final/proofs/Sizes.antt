@@ -11,8 +11,7 @@ use Rattle.file_stages.specs.declared.Stage.{Stage}
 use Rattle.file_stages.specs.declared.Stage.TheVariants.{Steps, PlanEnd}
 use Rattle.file_fields.specs.Fields.{word}
 use Rattle.file_fields.specs.Views.{links_seen}
-use Rattle.file_records.specs.declared.Found.TheVariants.{Record}
-use Rattle.file_records.specs.Records.{due_at}
+use Rattle.file_records.specs.Records.{due_at, recorded}
 use Rattle.file_records.proofs.Due.{Framed, due_kept}
 use Rattle.file_network.specs.Runs.{Reading, refused, reached, records, always, as_is}
 use Rattle.file_network.specs.NetworkFiles.{network_file}
@@ -28,7 +27,8 @@ use Rattle.file_plan.specs.Inputs.{plan_input}
 use Rattle.file_plan.proofs.Parts.{plan_end_run, with_steps, plan_chain}
 use Rattle.file_plan.proofs.Sizes.{plan_longest, steps_read, plan_size, plan_input_size}
 use Rattle.file_plan.proofs.Accepted.{plan_well_formed}
-use Rattle.file_final.specs.Inputs.{TwoPlans, two_plans, counted_on, second_behind, second_behind_by, plans_behind, plans_behind_by, final_input, final_input_by, second_lent, second_lent_by, plans_lent, plans_lent_by, files_input, files_input_by}
+use Rattle.file_final.specs.declared.FinalRead.{FinalRead}
+use Rattle.file_final.specs.Inputs.{two_plans, counted_on, second_behind, second_behind_by, plans_behind, plans_behind_by, final_input, final_input_by, second_lent, second_lent_by, plans_lent, plans_lent_by, files_input, files_input_by}
 
 -- ---- how long a plan file is
 
@@ -39,7 +39,7 @@ module _ (s : List ℕ) (links : ℕ) where
       let kept = records_keep s (always (links_seen links)) (with_step s) (λ left here stage a. (stage ≡ Steps) × (here + 8 * left ≡ at + 8 * n)) step n at Steps p end last q (refl, refl) run in
       omega (arith, kept.1, mul-zero 8)
     where
-      step : (left here : ℕ) (stage : Stage) (a : Plan) (kind long : ℕ) (next : Stage) → due_at s (links_seen links) here stage ≡ Record kind long next
+      step : (left here : ℕ) (stage : Stage) (a : Plan) (kind long : ℕ) (next : Stage) → due_at s (links_seen links) here stage ≡ recorded kind long next
           → (stage ≡ Steps) × (here + 8 * suc left ≡ at + 8 * n) → (next ≡ Steps) × (here + long + 8 * left ≡ at + 8 * n)
       step left here stage a kind long next d k =
           let f : Framed s here Steps kind long next = subst (λ (x : Stage). Framed s here x kind long next) k.0 (due_kept s (links_seen links) here stage d).framed in
@@ -59,7 +59,7 @@ module _ (s : List ℕ) (links : ℕ) where
 -- ---- one input
 
 -- the three files, each directly behind the one before it, and nothing behind the last
-pub record FinalFiles (s : List ℕ) (at : ℕ) (stage : Stage) (v : TwoPlans) : Type 0 where
+pub record FinalFiles (s : List ℕ) (at : ℕ) (stage : Stage) (v : FinalRead) : Type 0 where
   pub due : Stage
   pub due_second : Stage
   pub network : network_file s ≡ reached v.start due v.net
@@ -67,7 +67,7 @@ pub record FinalFiles (s : List ℕ) (at : ℕ) (stage : Stage) (v : TwoPlans) :
   pub second : plan_input s v.net.links v.middle ≡ reached at stage v.second
   pub end_is : v.end ≡ at
 
-pub final_files : (s : List ℕ) (at : ℕ) (stage : Stage) (v : TwoPlans) → final_input s ≡ reached at stage v → FinalFiles s at stage v
+pub final_files : (s : List ℕ) (at : ℕ) (stage : Stage) (v : FinalRead) → final_input s ≡ reached at stage v → FinalFiles s at stage v
 unfolding final_input_by plans_behind_by second_behind_by
 final_files s at stage v h =
     let a = then_reached (λ start stage n. plans_behind s start n) (network_file s) at stage v h in
@@ -76,7 +76,7 @@ final_files s at stage v h =
     let last = c.then in
     let at_is : c.at ≡ at = cc in
     let stage_is : c.stage ≡ stage = cc in
-    let same : ◌≡◌ {A = TwoPlans} (record { net = a.value; first = b.value; second = c.value; start = a.at; middle = b.at; end = c.at }) v = cc in
+    let same : ◌≡◌ {A = FinalRead} (record { net = a.value; first = b.value; second = c.value; start = a.at; middle = b.at; end = c.at }) v = cc in
     subst (FinalFiles s at stage) same
     (record {
       due = a.stage;
@@ -90,7 +90,7 @@ final_files s at stage v h =
 -- ---- lent apart
 
 -- each file is read to its own end
-pub record ApartFiles (network first second : List ℕ) (at : ℕ) (stage : Stage) (v : TwoPlans) : Type 0 where
+pub record ApartFiles (network first second : List ℕ) (at : ℕ) (stage : Stage) (v : FinalRead) : Type 0 where
   pub due : Stage
   pub due_second : Stage
   pub network_is : network_input network ≡ reached (length network) due v.net
@@ -110,7 +110,7 @@ counted_reached before (reached own last b) at stage a h =
     let at_is : before + own ≡ at = cc in
     (own, ap₂ (reached own) stage_is value_is, sym at_is)
 
-pub apart_files : (network first second : List ℕ) (at : ℕ) (stage : Stage) (v : TwoPlans) → files_input network first second ≡ reached at stage v
+pub apart_files : (network first second : List ℕ) (at : ℕ) (stage : Stage) (v : FinalRead) → files_input network first second ≡ reached at stage v
     → ApartFiles network first second at stage v
 unfolding files_input_by plans_lent_by second_lent_by
 apart_files network first second at stage v h =
@@ -122,7 +122,7 @@ apart_files network first second at stage v h =
     let last = c.then in
     let at_is : c.at ≡ at = cc in
     let stage_is : c.stage ≡ stage = cc in
-    let same : ◌≡◌ {A = TwoPlans}
+    let same : ◌≡◌ {A = FinalRead}
     (record { net = a.value; first = b.value; second = c.value; start = length network; middle = length network + length first; end = c.at }) v = cc in
     let p = counted_reached (length network) (plan_input first a.value.links 0) b.at b.stage b.value b.first in
     let q = counted_reached (length network + length first) (plan_input second a.value.links 0) c.at c.stage c.value c.first in
@@ -145,13 +145,13 @@ apart_files network first second at stage v h =
 -- ---- how long they are
 
 -- where the files start and end, in all their bytes: at most 6,352
-pub record FinalSize (all : ℕ) (v : TwoPlans) : Type 0 where
+pub record FinalSize (all : ℕ) (v : FinalRead) : Type 0 where
   pub first_long : v.middle ≡ v.start + 10 + 8 * v.first.steps
   pub second_long : v.end ≡ v.middle + 10 + 8 * v.second.steps
   pub ends : v.end ≡ all
   pub at_most : all ≤ network_longest + plan_longest + plan_longest
 
-module _ (s : List ℕ) (at : ℕ) (stage : Stage) (v : TwoPlans) where
+module _ (s : List ℕ) (at : ℕ) (stage : Stage) (v : FinalRead) where
   pub final_size : FinalFiles s at stage v → FinalSize (length s) v
   final_size f =
       let n = network_size s v.start f.due v.net f.network in
@@ -169,7 +169,7 @@ module _ (s : List ℕ) (at : ℕ) (stage : Stage) (v : TwoPlans) where
   pub final_most : final_input s ≡ reached at stage v → length s ≤ 6352
   final_most h = (final_size (final_files s at stage v h)).at_most
 
-module _ (network first second : List ℕ) (at : ℕ) (stage : Stage) (v : TwoPlans) where
+module _ (network first second : List ℕ) (at : ℕ) (stage : Stage) (v : FinalRead) where
   pub apart_size : ApartFiles network first second at stage v → FinalSize (length network + length first + length second) v
   apart_size f =
       let n = network_input_size network (length network) f.due v.net f.network_is in
@@ -191,12 +191,12 @@ module _ (network first second : List ℕ) (at : ℕ) (stage : Stage) (v : TwoPl
 
 -- ---- rules 5 to 12 and 20 are kept by all three
 
-pub record TwoFormed (v : TwoPlans) : Type 0 where
+pub record TwoFormed (v : FinalRead) : Type 0 where
   pub net : WellFormed v.net
   pub first : WellFormedPlan v.net.links v.first
   pub second : WellFormedPlan v.net.links v.second
 
-pub final_formed : (s : List ℕ) → ((i : ℕ) → get_or s i 0 < 256) → (at : ℕ) (stage : Stage) (v : TwoPlans) → final_input s ≡ reached at stage v → TwoFormed v
+pub final_formed : (s : List ℕ) → ((i : ℕ) → get_or s i 0 < 256) → (at : ℕ) (stage : Stage) (v : FinalRead) → final_input s ≡ reached at stage v → TwoFormed v
 final_formed s bytes at stage v h =
     let f = final_files s at stage v h in
     record {
@@ -206,7 +206,7 @@ final_formed s bytes at stage v h =
           (plan_input_size s v.net.links v.middle at stage v.second f.second).0;
     }
 
-pub files_formed : (network first second : List ℕ) → ((i : ℕ) → get_or network i 0 < 256) → (at : ℕ) (stage : Stage) (v : TwoPlans)
+pub files_formed : (network first second : List ℕ) → ((i : ℕ) → get_or network i 0 < 256) → (at : ℕ) (stage : Stage) (v : FinalRead)
     → files_input network first second ≡ reached at stage v → TwoFormed v
 files_formed network first second bytes at stage v h =
     let f = apart_files network first second at stage v h in

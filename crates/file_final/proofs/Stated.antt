@@ -6,10 +6,9 @@ use mathlib.Core.Logic.{◌↔◌}
 use Prim.Native.Nat.{ℕ, ◌+◌}
 use native.Mathlib.Omega.{arith}
 use lib.ListN.{length}
+use Rattle.std.specs.Prelude.{Ok, Err}
 use Rattle.network.specs.declared.Network.{Network}
-use Rattle.network.specs.Networks.{empty_network}
 use Rattle.network.specs.declared.refusal.Refusal.{Refusal}
-use Rattle.network.specs.declared.refusal.Answer.TheVariants.{Accepted, Refused}
 use Rattle.file_stages.specs.declared.Stage.{Stage}
 use Rattle.file_fields.specs.Fields.{word}
 use Rattle.file_network.specs.Runs.{Reading, reached, read_on}
@@ -17,7 +16,7 @@ use Rattle.file_network.specs.NetworkFiles.{network_file}
 use Rattle.file_network.specs.Inputs.{closed}
 use Rattle.file_network.proofs.Sizes.{network_size, network_input_size}
 use Rattle.file_plan.specs.declared.plan.Plan.{Plan}
-use Rattle.file_plan.specs.PlanFiles.{empty_plan, plan_file}
+use Rattle.file_plan.specs.PlanFiles.{plan_file}
 use Rattle.file_plan.specs.Inputs.{plan_input}
 use Rattle.file_plan.proofs.Sizes.{plan_input_size}
 use Rattle.file_refusals.specs.Files.{network_stages, plan_stages, PlanStands}
@@ -27,10 +26,10 @@ use Rattle.file_refusals.proofs.Stated.{file_states, states_once}
 use Rattle.file_refusals.proofs.StatedPlan.{plan_states, plan_states_once}
 use Rattle.file_refusals.proofs.Reading.{stated_read}
 use Rattle.file_final.specs.declared.FinalRead.{FinalRead}
-use Rattle.file_final.specs.Inputs.{TwoPlans, no_plans, two_plans, counted_on, final_input, files_input, final_read}
+use Rattle.file_final.specs.Inputs.{two_plans, counted_on, final_input, files_input, final_read}
 use Rattle.file_final.specs.Finals.{FirstBrokenFinal, FinalOf, PlanOf, FirstBrokenFiles, FilesOf}
 use Rattle.file_final.proofs.Sizes.{FinalFiles, final_files, ApartFiles, apart_files}
-use Rattle.file_final.proofs.Answers.{final_was_refused, final_was_whole}
+use Rattle.file_final.proofs.Answers.{was_refused, was_whole}
 use Rattle.file_final.proofs.Apart.{closed_at}
 use Rattle.file_final.proofs.Refusals.{ReadTo, network_stood, plan_stood, second_in, final_refused, keeps_read, plan_alone_keeps, links_stated, second_apart, files_refused}
 
@@ -38,7 +37,7 @@ use Rattle.file_final.proofs.Refusals.{ReadTo, network_stood, plan_stood, second
 
 module _ (s : List ℕ) where
   -- the files that are read, in the paper's words
-  final_of : (at : ℕ) (stage : Stage) (v : TwoPlans) → FinalFiles s at stage v → FinalOf s v.net v.first v.second v.start v.middle
+  final_of : (at : ℕ) (stage : Stage) (v : FinalRead) → FinalFiles s at stage v → FinalOf s v.net v.first v.second v.start v.middle
   final_of at stage v f =
       let links = (network_size s v.start f.due v.net f.network).links.links_are in
       let first : plan_file s (word s 6) v.start ≡ reached v.middle f.due_second v.first =
@@ -80,23 +79,15 @@ module _ (s : List ℕ) where
       )
 
   -- refused with this rule and place exactly where it is the first that s breaks
-  pub final_unread : (f : Refusal) → ((final_read (final_input s)).answer ≡ Refused f) ↔ FirstBrokenFinal s f
-  unfolding final_read
-  final_unread f = (λ e. (final_refused s f).0 (final_was_refused (final_input s) (final_read (final_input s)) refl f e), λ b. ap (λ (o : Reading TwoPlans). (final_read o).answer) ((final_refused s f).1 b))
-
-  -- "A refusal hands out no plan, mark or partial network."
-  pub final_handed_out : (f : Refusal) → (final_read (final_input s) ≡
-      record { answer = Refused f; net = empty_network; first = empty_plan; second = empty_plan; start = 0; middle = 0; end = 0 }) ↔ FirstBrokenFinal s f
-  unfolding final_read no_plans
-  final_handed_out f = (λ e. (final_unread f).0 (ap (λ (r : FinalRead). r.answer) e), λ b. ap final_read ((final_refused s f).1 b))
+  pub final_unread : (f : Refusal) → (final_read (final_input s) ≡ Err f) ↔ FirstBrokenFinal s f
+  final_unread f = (λ e. (final_refused s f).0 (was_refused (final_input s) f e), λ b. ap final_read ((final_refused s f).1 b))
 
   -- read as this network with these plans exactly where s is their files
   pub final_read_lem : (n : Network) (p q : Plan) (start middle : ℕ) → (final_read (final_input s) ≡
-      record { answer = Accepted; net = n; first = p; second = q; start = start; middle = middle; end = length s }) ↔ FinalOf s n p q start middle
-  unfolding final_read
+      Ok (record { net = n; first = p; second = q; start = start; middle = middle; end = length s })) ↔ FinalOf s n p q start middle
   final_read_lem n p q start middle = (
     λ e.
-        let w = final_was_whole (final_input s) _ (sym e) refl in
+        let w = was_whole (final_input s) _ e in
         final_of w.at w.stage _ (final_files s w.at w.stage _ w.is),
     λ x. ap final_read (final_stated n p q start middle x).1,
   )
@@ -120,7 +111,7 @@ module _ (t : List ℕ) (E K : ℕ) where
 -- ---- files lent apart
 
 module _ (network first second : List ℕ) where
-  files_of : (at : ℕ) (stage : Stage) (v : TwoPlans) → ApartFiles network first second at stage v → FilesOf network first second v.net v.first v.second
+  files_of : (at : ℕ) (stage : Stage) (v : FinalRead) → ApartFiles network first second at stage v → FilesOf network first second v.net v.first v.second
   files_of at stage v f =
       let links = links_stated network (length network) f.due v.net f.network_is in
       record {
@@ -134,7 +125,7 @@ module _ (network first second : List ℕ) where
             (subst (λ (k : ℕ). plan_input second k 0 ≡ reached (length second) stage v.second) links f.second_is);
       }
 
-  abbrev stated : Network → Plan → Plan → TwoPlans
+  abbrev stated : Network → Plan → Plan → FinalRead
   stated n p q =
       record { net = n; first = p; second = q; start = length network; middle = length network + length first; end = length network + length first + length second }
 
@@ -150,32 +141,16 @@ module _ (network first second : List ℕ) where
             (ap (λ (y : Reading Plan). read_on (counted_on (length network + length first) y) (two_plans n (length network) (length network + length first) p)) u.1),
       )
 
-  pub files_unread : (f : Refusal) → ((final_read (files_input network first second)).answer ≡ Refused f) ↔ FirstBrokenFiles network first second f
-  unfolding final_read
+  pub files_unread : (f : Refusal) → (final_read (files_input network first second) ≡ Err f) ↔ FirstBrokenFiles network first second f
   files_unread f = (
-    λ e. (files_refused network first second f).0 (final_was_refused (files_input network first second) (final_read (files_input network first second)) refl f e),
-    λ b. ap (λ (o : Reading TwoPlans). (final_read o).answer) ((files_refused network first second f).1 b),
+    λ e. (files_refused network first second f).0 (was_refused (files_input network first second) f e),
+    λ b. ap final_read ((files_refused network first second f).1 b),
   )
 
-  pub files_handed_out : (f : Refusal) → (final_read (files_input network first second) ≡
-      record { answer = Refused f; net = empty_network; first = empty_plan; second = empty_plan; start = 0; middle = 0; end = 0 }) ↔ FirstBrokenFiles network first second f
-  unfolding final_read no_plans
-  files_handed_out f = (λ e. (files_unread f).0 (ap (λ (r : FinalRead). r.answer) e), λ b. ap final_read ((files_refused network first second f).1 b))
-
-  pub files_read : (n : Network) (p q : Plan) → (final_read (files_input network first second) ≡
-      record {
-        answer = Accepted;
-        net = n;
-        first = p;
-        second = q;
-        start = length network;
-        middle = length network + length first;
-        end = length network + length first + length second;
-      }) ↔ FilesOf network first second n p q
-  unfolding final_read
+  pub files_read : (n : Network) (p q : Plan) → (final_read (files_input network first second) ≡ Ok (stated n p q)) ↔ FilesOf network first second n p q
   files_read n p q = (
     λ e.
-        let w = final_was_whole (files_input network first second) _ (sym e) refl in
+        let w = was_whole (files_input network first second) _ e in
         files_of w.at w.stage _ (apart_files network first second w.at w.stage _ w.is),
     λ x. ap final_read (files_stated n p q x).1,
   )

@@ -7,18 +7,17 @@ use Prim.Native.Nat.{ℕ, zero, suc, ◌+◌, ◌≤◌}
 use native.Mathlib.Omega.{arith}
 use lib.Dec.{ltb}
 use lib.ListN.{length}
+use Rattle.std.specs.Prelude.{Result, Err, Ok}
+use Rattle.file_records.specs.declared.Record.{Record}
 use Rattle.network.specs.declared.refusal.Refusal.{Refusal}
 use Rattle.network.specs.declared.refusal.Rule.TheVariants.{ByteAfterEnd}
 use Rattle.network.specs.Refusals.{pick}
 use Rattle.file_stages.specs.declared.Stage.{Stage}
 use Rattle.file_stages.specs.declared.Stage.TheVariants.{PlanHead}
 use Rattle.file_stages.specs.Stages.{after_last}
-use Rattle.file_fields.specs.declared.Seen.{Seen}
+use Rattle.file_fields.specs.Views.{Seen, links_seen}
 use Rattle.file_fields.specs.Fields.{word}
-use Rattle.file_fields.specs.Views.{links_seen}
-use Rattle.file_records.specs.declared.Found.{Found}
-use Rattle.file_records.specs.declared.Found.TheVariants.{Record, Refused}
-use Rattle.file_records.specs.Records.{due_at}
+use Rattle.file_records.specs.Records.{due_at, recorded}
 use Rattle.file_records.proofs.Due.{due_kept, due_refused}
 use Rattle.file_network.specs.Runs.{Reading, refused, reached, read_on, on_found, records, records_by, always, as_is}
 use Rattle.file_network.specs.Inputs.{closed}
@@ -42,11 +41,11 @@ module _ (s : List ℕ) where
   run_within seen into zero at stage a h = h
   run_within {A} seen into (suc count) at stage a h = go (due_at s (seen a) at stage) refl (run_within seen into count)
     where
-      go : (f : Found) → due_at s (seen a) at stage ≡ f
+      go : (f : Result Record Refusal) → due_at s (seen a) at stage ≡ f
           → ((at' : ℕ) (stage' : Stage) (a' : A) → at' ≤ length s → Within (length s) (records s seen into count at' stage' a'))
           → Within (length s) (on_found f (λ long next. records s seen into count (at + long) next (into at a)))
-      go (Record kind long next) d rest = rest (at + long) next (into at a) (due_kept s (seen a) at stage d).framed.fits
-      go (Refused r) d rest = omega (arith, (due_refused s (seen a) at stage d).1)
+      go (Ok found) d rest = rest (at + found.length) found.next (into at a) (due_kept s (seen a) at stage d).framed.fits
+      go (Err r) d rest = omega (arith, (due_refused s (seen a) at stage d).1)
 
   closed_within : {A : Type 0} (at : ℕ) (stage : Stage) (a : A) → at ≤ length s → Within (length s) (closed s at stage a)
   closed_within at stage a h = go (ltb at (length s))

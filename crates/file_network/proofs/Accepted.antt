@@ -12,9 +12,8 @@ use Rattle.file_stages.specs.declared.Stage.TheVariants.{Elements, Links}
 use Rattle.network.specs.declared.Element.{Element}
 use Rattle.network.specs.declared.Link.{Link}
 use Rattle.network.specs.declared.Network.{Network}
-use Rattle.file_fields.specs.declared.Seen.{Seen}
+use Rattle.file_fields.specs.Views.{Seen, network_seen}
 use Rattle.file_fields.specs.Fields.{word, wide_word}
-use Rattle.file_fields.specs.Views.{network_seen}
 use Rattle.network.specs.Accepted.{suits}
 use Rattle.file_network.specs.Runs.{reached}
 use Rattle.file_network.specs.NetworkFiles.{narrow_element, wide_element, element_of, link_of, network_file}

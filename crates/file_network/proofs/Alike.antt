@@ -8,14 +8,15 @@ use native.Mathlib.Nat.{add-zero, add_assoc}
 use native.Mathlib.Omega.{arith}
 use lib.Dec.{ltb}
 use lib.ListN.{length}
+use Rattle.std.specs.Prelude.{Result, Err, Ok}
+use Rattle.network.specs.declared.refusal.Refusal.{Refusal}
+use Rattle.file_records.specs.declared.Record.{Record}
 use Rattle.network.specs.declared.refusal.Rule.{Rule}
 use Rattle.network.specs.declared.refusal.Rule.TheVariants.{ByteAfterEnd}
 use Rattle.network.specs.Refusals.{pick}
 use Rattle.file_stages.specs.declared.Stage.{Stage}
-use Rattle.file_fields.specs.declared.Seen.{Seen}
-use Rattle.file_records.specs.declared.Found.{Found}
-use Rattle.file_records.specs.declared.Found.TheVariants.{Record, Refused}
-use Rattle.file_records.specs.Records.{due_at}
+use Rattle.file_fields.specs.Views.{Seen}
+use Rattle.file_records.specs.Records.{due_at, recorded}
 use Rattle.file_records.proofs.Due.{Whole, next_at, due_kept, due_refused}
 use Rattle.file_records.proofs.SameBytes.{SameFrom, same_on, past_same}
 use Rattle.file_records.proofs.Alike.{looks_at, framed_looks, placed, due_alike}
@@ -91,25 +92,25 @@ module _ {A B : Type 0} (R : A → B → Type 0) (s t : List ℕ) (seen : A → 
   alike (suc n) at at' stage a b p same far r =
       go (due_at s (seen a) at stage) refl (λ long next a' b'. alike n (at + long) (at' + long) next a' b')
     where
-      go : (f : Found) → due_at s (seen a) at stage ≡ f
+      go : (f : Result Record Refusal) → due_at s (seen a) at stage ≡ f
           → ((long : ℕ) (next : Stage) (a' : A) (b' : B) → P next → SameFrom s t (at + long) (at' + long) upto
           → looks s seen into n (at + long) next a' ≤ upto → R a' b'
           → Moved R (at + long) (at' + long) (records s seen into n (at + long) next a') (records t seen' into' n (at' + long) next b'))
           → Moved R at at' (records s seen into (suc n) at stage a) (records t seen' into' (suc n) at' stage b)
-      go (Record kind long next) d further =
+      go (Ok found) d further =
           let w = due_kept s (seen a) at stage d in
-          let whole = framed_looks s at stage kind long next w.framed in
-          let rest : looks s seen into n (at + long) next (into at a) ≤ upto = rw (looks_suc s seen into n at stage a kind long next d) at far in
-          let room : at + long ≤ upto = omega (arith, (run_looked s seen into n (at + long) next (into at a)).from) in
-          let there : due_at t (seen' b) at' stage ≡ Record kind long next =
+          let whole = framed_looks s at stage found.kind found.length found.next w.framed in
+          let rest : looks s seen into n (at + found.length) found.next (into at a) ≤ upto = rw (looks_suc s seen into n at stage a found.kind found.length found.next d) at far in
+          let room : at + found.length ≤ upto = omega (arith, (run_looked s seen into n (at + found.length) found.next (into at a)).from) in
+          let there : due_at t (seen' b) at' stage ≡ recorded found.kind found.length found.next =
           due_there at at' stage a b same (omega arith) r ∙ ap (placed at') d in
-          let on : P next = subst P (sym w.framed.next_at_lem) (stays stage p) in
-          moved_by (records_suc s seen into n at stage a kind long next d)
-          (records_suc t seen' into' n at' stage b kind long next there)
-          (moved_from long
-          (further long next (into at a) (into' at' b) on (same_on same long) rest
-          (taken at at' stage kind long next a b p w same room r)))
-      go (Refused x) d further =
+          let on : P found.next = subst P (sym w.framed.next_at_lem) (stays stage p) in
+          moved_by (records_suc s seen into n at stage a found.kind found.length found.next d)
+          (records_suc t seen' into' n at' stage b found.kind found.length found.next there)
+          (moved_from found.length
+          (further found.length found.next (into at a) (into' at' b) on (same_on same found.length) rest
+          (taken at at' stage found.kind found.length found.next a b p w same room r)))
+      go (Err x) d further =
           let looked : at + looks_at s at stage ≤ upto = rw (looks_refused s seen into n at stage a x d) at far in
           let there = due_there at at' stage a b same looked r ∙ ap (placed at') d in
           let place_is : x ≡ record { rule = x.rule; place = at } = ap (λ (k : ℕ). record { rule = x.rule; place = k }) (due_refused s (seen a) at stage d).1 in

@@ -11,9 +11,8 @@ use lib.Seq.{get_or-set_same, get_or-set_other}
 use Rattle.file_stages.specs.declared.Stage.{Stage}
 use Rattle.file_stages.specs.declared.Stage.TheVariants.{Elements, Links}
 use Rattle.network.specs.declared.Network.{Network}
-use Rattle.file_fields.specs.declared.Seen.{Seen}
+use Rattle.file_fields.specs.Views.{Seen, nothing_seen, network_seen}
 use Rattle.file_fields.specs.Fields.{word}
-use Rattle.file_fields.specs.Views.{nothing_seen, network_seen}
 use Rattle.network.specs.Networks.{empty_network}
 use Rattle.file_network.specs.Runs.{reached, records, always}
 use Rattle.file_network.specs.NetworkFiles.{element_of, link_of, with_element, with_link, network_file}

@@ -1,17 +1,17 @@
 -- What a record of each kind of element states, and that it has the room for it: by the kind that the record has.
 -- Assumes nothing.
-use mathlib.Core.Path.{◌≡◌, sym, ◌∙◌}
+use mathlib.Core.Path.{◌≡◌, sym}
 use mathlib.Core.List.{List}
 use Prim.Native.Nat.{ℕ}
 use native.Mathlib.Omega.{arith}
+use Rattle.std.specs.Prelude.{Ok}
 use Rattle.file_stages.specs.declared.Stage.{Stage}
 use Rattle.file_stages.specs.declared.Stage.TheVariants.{Elements}
-use Rattle.file_fields.specs.declared.Seen.{Seen}
+use Rattle.file_fields.specs.Views.{Seen}
 use Rattle.file_fields.specs.Fields.{length_of}
-use Rattle.file_records.specs.declared.Found.{Found}
-use Rattle.file_records.specs.declared.Found.TheVariants.{Record}
 use Rattle.file_records.specs.Records.{kind_field, due_at}
 use Rattle.file_records.proofs.Due.{Framed, due_kept}
+use Rattle.file_records.specs.declared.Record.{Record}
 use Rattle.file_network.specs.NetworkFiles.{narrow_element, wide_element, element_of, ElementThere}
 
 pub element_narrow : (s : List ℕ) (at : ℕ) → kind_field s at ≡ 2 → element_of s at ≡ narrow_element s at
@@ -33,11 +33,8 @@ element_there {s} {at} {kind} {long} f =
 
 -- the record found in a turn of the loop over the elements
 pub element_turn :
-    (s : List ℕ) (seen : Seen) (at : ℕ) (stage : Stage) (found : Found) (kind long : ℕ) (next : Stage) →
-    found ≡ due_at s seen at stage →
+    (s : List ℕ) (seen : Seen) (at : ℕ) (stage : Stage) (found : Record) →
+    Ok found ≡ due_at s seen at stage →
     stage ≡ Elements →
-    found ≡ Record kind long next →
-    ElementThere s at kind
-element_turn s seen at stage found kind long next due e h =
-    let here : due_at s seen at Elements ≡ Record kind long next = rw e at (sym due ∙ h) in
-    element_there (due_kept s seen at Elements here).framed
+    ElementThere s at found.kind
+element_turn s seen at stage found due e = element_there (due_kept s seen at Elements (rw e at (sym due))).framed

@@ -7,20 +7,19 @@ use Prim.Native.Nat.{ℕ, zero, suc, ◌+◌}
 use native.Mathlib.Omega.{arith}
 use lib.Dec.{ltb}
 use lib.ListN.{length}
+use Rattle.std.specs.Prelude.{Result, Ok, Err}
+use Rattle.network.specs.declared.refusal.Refusal.{Refusal}
+use Rattle.network.specs.declared.refusal.Rule.{Rule}
+use Rattle.file_records.specs.declared.Record.{Record}
 use Rattle.network.specs.declared.Network.{Network}
 use Rattle.network.specs.Networks.{empty_network}
 use Rattle.network.specs.declared.refusal.Rule.TheVariants.{KindOutOfPlace, ByteAfterEnd}
-use Rattle.network.specs.declared.refusal.Verdict.{Verdict}
-use Rattle.network.specs.declared.refusal.Verdict.TheVariants.{Kept, Broken}
 use Rattle.network.specs.Refusals.{pick, first_broken}
 use Rattle.file_stages.specs.declared.Stage.{Stage}
 use Rattle.file_stages.specs.declared.Stage.TheVariants.{Head}
 use Rattle.file_stages.specs.Stages.{after_last}
-use Rattle.file_fields.specs.declared.Seen.{Seen}
+use Rattle.file_fields.specs.Views.{Seen, nothing_seen, network_seen}
 use Rattle.file_fields.specs.Fields.{word}
-use Rattle.file_fields.specs.Views.{nothing_seen, network_seen}
-use Rattle.file_records.specs.declared.Found.{Found}
-use Rattle.file_records.specs.declared.Found.TheVariants.{Record, Refused}
 use Rattle.file_records.specs.Records.{kind_field, length_field, record_rules_by, found_by, due_by, due_at}
 use Rattle.file_records.proofs.Known.{due_known}
 use Rattle.file_network.specs.Runs.{Reading, refused, reached, read_on, on_found, records_by, records, always, as_is}
@@ -55,10 +54,10 @@ module _ (known : ℕ → Bool) (s : List ℕ) where
   records_known seen into zero at stage a there = refl
   records_known {A} seen into (suc n) at stage a there = go (due_by known s (seen a) at stage) refl (records_known seen into n)
     where
-      on : Found → Reading A
+      on : Result Record Refusal → Reading A
       on f = on_found f (λ long next. records_by known s seen into n (at + long) next (into at a))
 
-      on_ever : Found → Reading A
+      on_ever : Result Record Refusal → Reading A
       on_ever f = on_found f (λ long next. records s seen into n (at + long) next (into at a))
 
       same : due_by known s (seen a) at stage ≡ due_at s (seen a) at stage
@@ -69,16 +68,16 @@ module _ (known : ℕ → Bool) (s : List ℕ) where
           differ : ◌≡◌ {A = Bool} true false → ⊥
           differ z = let y : ◌≡◌ {A = ℕ} 0 1 = cc in absurd (omega arith)
 
-      go : (f : Found) →
+      go : (f : Result Record Refusal) →
           due_by known s (seen a) at stage ≡ f →
           ((at' : ℕ) (stage' : Stage) (a' : A) → KnownThere known s (records_by known s seen into n at' stage' a')
           → records_by known s seen into n at' stage' a' ≡ records s seen into n at' stage' a') →
           on (due_by known s (seen a) at stage) ≡ on_ever (due_at s (seen a) at stage)
-      go (Record kind long next) d rest =
+      go (Ok found) d rest =
           ap on d ∙
-          rest (at + long) next (into at a) (λ place e. there place (ap on d ∙ e)) ∙
+          rest (at + found.length) found.next (into at a) (λ place e. there place (ap on d ∙ e)) ∙
           ap on_ever (sym d ∙ same)
-      go (Refused r) d rest = ap on d ∙ ap on_ever (sym d ∙ same)
+      go (Err r) d rest = ap on d ∙ ap on_ever (sym d ∙ same)
 
   pub end_known : (at : ℕ) (stage : Stage) (n : Network) → KnownThere known s (end_on_by known s at stage n) → end_on_by known s at stage n ≡ end_on s at stage n
   unfolding end_on_by
@@ -142,12 +141,12 @@ module _ (P : ℕ → Type 0) (known : ℕ → Bool) (s : List ℕ) (on : (at : 
   records_placed {A} seen into (suc n) at stage a h =
       go (first_broken (record_rules_by known s (seen a) at stage)) (records_placed seen into n)
     where
-      go : (v : Verdict)
+      go : (v : Result Unit Rule)
           → ((at' : ℕ) (stage' : Stage) (a' : A) → P at' → Placed P (records_by known s seen into n at' stage' a'))
           → Placed P (on_found (found_by s at stage v)
           (λ long next. records_by known s seen into n (at + long) next (into at a)))
-      go Kept rest = rest (at + length_field s at) _ (into at a) (on at h)
-      go (Broken r) rest = h
+      go (Ok t) rest = rest (at + length_field s at) _ (into at a) (on at h)
+      go (Err r) rest = h
 
   pub network_placed : P 0 → Placed P (network_file_by known s)
   unfolding network_file_by elements_on_by links_on_by end_on_by

@@ -5,20 +5,20 @@ use mathlib.Core.List.{List}
 use Prim.Native.Nat.{ℕ, zero, suc, ◌+◌, ◌*◌, ◌≤◌}
 use native.Mathlib.Nat.{mul-suc}
 use native.Mathlib.Omega.{arith}
+use Rattle.std.specs.Prelude.{Result, Err, Ok}
+use Rattle.file_records.specs.declared.Record.{Record}
 use Rattle.network.specs.declared.refusal.Refusal.{Refusal}
 use Rattle.file_stages.specs.declared.Stage.{Stage}
-use Rattle.file_fields.specs.declared.Seen.{Seen}
-use Rattle.file_records.specs.declared.Found.{Found}
-use Rattle.file_records.specs.declared.Found.TheVariants.{Record, Refused}
-use Rattle.file_records.specs.Records.{due_at}
+use Rattle.file_fields.specs.Views.{Seen}
+use Rattle.file_records.specs.Records.{due_at, recorded}
 use Rattle.file_records.proofs.Due.{next_at, longest, due_kept}
 use Rattle.file_records.proofs.Alike.{looks_at, looks_longest}
 use Rattle.file_network.specs.Runs.{Reading, refused, reached, read_on, records}
 use Rattle.file_network.proofs.Runs.{records_none, records_refused, records_suc}
 
-abbrev pub looks_on : Found → ℕ → (ℕ → Stage → ℕ) → ℕ
-looks_on (Record kind long next) l f = f long next
-looks_on (Refused r) l f = l
+abbrev pub looks_on : Result Record Refusal → ℕ → (ℕ → Stage → ℕ) → ℕ
+looks_on (Ok found) l f = f found.length found.next
+looks_on (Err r) l f = l
 
 -- the offset up to which a run of so many records looks
 unfoldable pub looks : {A : Type 0} (s : List ℕ) (seen : A → Seen) (into : ℕ → A → A) → ℕ → ℕ → Stage → A → ℕ
@@ -74,34 +74,34 @@ module _ {A : Type 0} (s : List ℕ) (seen : A → Seen) (into : ℕ → A → A
 
   pub looks_suc :
       (n at : ℕ) (stage : Stage) (a : A) (kind long : ℕ) (next : Stage) →
-      due_at s (seen a) at stage ≡ Record kind long next →
+      due_at s (seen a) at stage ≡ recorded kind long next →
       looks s seen into (suc n) at stage a ≡ looks s seen into n (at + long) next (into at a)
   unfolding looks
   looks_suc n at stage a kind long next d =
-      ap (λ (f : Found). looks_on f (at + looks_at s at stage) (λ long next. looks s seen into n (at + long) next (into at a))) d
+      ap (λ (f : Result Record Refusal). looks_on f (at + looks_at s at stage) (λ long next. looks s seen into n (at + long) next (into at a))) d
 
   pub looks_refused :
       (n at : ℕ) (stage : Stage) (a : A) (r : Refusal) →
-      due_at s (seen a) at stage ≡ Refused r →
+      due_at s (seen a) at stage ≡ Err r →
       looks s seen into (suc n) at stage a ≡ at + looks_at s at stage
   unfolding looks
   looks_refused n at stage a r d =
-      ap (λ (f : Found). looks_on f (at + looks_at s at stage) (λ long next. looks s seen into n (at + long) next (into at a))) d
+      ap (λ (f : Result Record Refusal). looks_on f (at + looks_at s at stage) (λ long next. looks s seen into n (at + long) next (into at a))) d
 
   pub run_looked : (n at : ℕ) (stage : Stage) (a : A) → Looked at (records s seen into n at stage a) (looks s seen into n at stage a)
   run_looked zero at stage a =
       rw (records_none s seen into at stage a, looks_none at stage a) (record { from = omega arith; ends = λ end last b e. cc })
   run_looked (suc n) at stage a = go (due_at s (seen a) at stage) refl (run_looked n)
     where
-      go : (f : Found) →
+      go : (f : Result Record Refusal) →
           due_at s (seen a) at stage ≡ f →
           ((at' : ℕ) (stage' : Stage) (a' : A) → Looked at' (records s seen into n at' stage' a') (looks s seen into n at' stage' a')) →
           Looked at (records s seen into (suc n) at stage a) (looks s seen into (suc n) at stage a)
-      go (Record kind long next) d rest =
-          let further = rest (at + long) next (into at a) in
-          rw (records_suc s seen into n at stage a kind long next d, looks_suc n at stage a kind long next d)
+      go (Ok found) d rest =
+          let further = rest (at + found.length) found.next (into at a) in
+          rw (records_suc s seen into n at stage a found.kind found.length found.next d, looks_suc n at stage a found.kind found.length found.next d)
           (record { from = omega (arith, further.from); ends = further.ends })
-      go (Refused r) d rest =
+      go (Err r) d rest =
           rw (records_refused s seen into (suc n) at stage a r (omega arith) d, looks_refused n at stage a r d)
           (record { from = omega arith; ends = λ end last b e. let z : ◌≡◌ {A = ℕ} 0 1 = cc in absurd (omega arith) })
 
@@ -109,28 +109,28 @@ module _ {A : Type 0} (s : List ℕ) (seen : A → Seen) (into : ℕ → A → A
   pub looks_one : (at : ℕ) (stage : Stage) (a : A) → 4 ≤ longest stage → looks s seen into 1 at stage a ≤ at + longest stage
   looks_one at stage a four = go (due_at s (seen a) at stage) refl
     where
-      go : (f : Found) → due_at s (seen a) at stage ≡ f → looks s seen into 1 at stage a ≤ at + longest stage
-      go (Record kind long next) d =
+      go : (f : Result Record Refusal) → due_at s (seen a) at stage ≡ f → looks s seen into 1 at stage a ≤ at + longest stage
+      go (Ok found) d =
           omega (
             arith,
-            looks_suc 0 at stage a kind long next d,
-            looks_none (at + long) next (into at a),
+            looks_suc 0 at stage a found.kind found.length found.next d,
+            looks_none (at + found.length) found.next (into at a),
             (due_kept s (seen a) at stage d).framed.most,
           )
-      go (Refused r) d = omega (arith, looks_refused 0 at stage a r d, looks_longest s at stage four)
+      go (Err r) d = omega (arith, looks_refused 0 at stage a r d, looks_longest s at stage four)
 
   pub looks_most :
       (stage : Stage) → next_at stage ≡ stage → 4 ≤ longest stage → (n at : ℕ) (a : A) → looks s seen into n at stage a ≤ at + longest stage * n
   looks_most stage back four zero at a = omega (arith, looks_none at stage a)
   looks_most stage back four (suc n) at a = go (due_at s (seen a) at stage) refl (looks_most stage back four n)
     where
-      go : (f : Found) →
+      go : (f : Result Record Refusal) →
           due_at s (seen a) at stage ≡ f →
           ((at' : ℕ) (a' : A) → looks s seen into n at' stage a' ≤ at' + longest stage * n) →
           looks s seen into (suc n) at stage a ≤ at + longest stage * suc n
-      go (Record kind long next) d more =
+      go (Ok found) d more =
           let f = (due_kept s (seen a) at stage d).framed in
-          let next_is : next ≡ stage = f.next_at_lem ∙ back in
-          let rest : looks s seen into n (at + long) next (into at a) ≤ at + long + longest stage * n = rw next_is (more (at + long) (into at a)) in
-          omega (arith, looks_suc n at stage a kind long next d, f.most, mul-suc (longest stage) n)
-      go (Refused r) d more = omega (arith, looks_refused n at stage a r d, looks_longest s at stage four, mul-suc (longest stage) n)
+          let next_is : found.next ≡ stage = f.next_at_lem ∙ back in
+          let rest : looks s seen into n (at + found.length) found.next (into at a) ≤ at + found.length + longest stage * n = rw next_is (more (at + found.length) (into at a)) in
+          omega (arith, looks_suc n at stage a found.kind found.length found.next d, f.most, mul-suc (longest stage) n)
+      go (Err r) d more = omega (arith, looks_refused n at stage a r d, looks_longest s at stage four, mul-suc (longest stage) n)

@@ -5,12 +5,12 @@ use mathlib.Core.List.{List}
 use Prim.Native.Nat.{ℕ, zero, suc, ◌+◌, ◌-◌, ◌*◌, ◌<◌, ◌≤◌}
 use native.Mathlib.Nat.{not-suc-le-zero, mul-suc, mul-zero}
 use native.Mathlib.Omega.{arith}
+use Rattle.std.specs.Prelude.{Result, Err, Ok}
+use Rattle.file_records.specs.declared.Record.{Record}
 use Rattle.network.specs.declared.refusal.Refusal.{Refusal}
 use Rattle.file_stages.specs.declared.Stage.{Stage}
-use Rattle.file_fields.specs.declared.Seen.{Seen}
-use Rattle.file_records.specs.declared.Found.{Found}
-use Rattle.file_records.specs.declared.Found.TheVariants.{Record, Refused}
-use Rattle.file_records.specs.Records.{due_at}
+use Rattle.file_fields.specs.Views.{Seen}
+use Rattle.file_records.specs.Records.{due_at, recorded}
 use Rattle.file_network.specs.Runs.{refused, reached, on_found, records, records_by}
 use Rattle.file_records.proofs.Due.{Whole, next_at, longest, due_kept}
 
@@ -22,25 +22,25 @@ module _ {A : Type 0} (s : List ℕ) (seen : A → Seen) (into : ℕ → A → A
   pub records_refused :
       (n at : ℕ) (stage : Stage) (a : A) (r : Refusal) →
       0 < n →
-      due_at s (seen a) at stage ≡ Refused r →
+      due_at s (seen a) at stage ≡ Err r →
       records s seen into n at stage a ≡ refused r
   unfolding records_by
   records_refused zero at stage a r h e = absurd (not-suc-le-zero h)
   records_refused (suc n) at stage a r h e =
-      ap (λ (f : Found). on_found f (λ long next. records s seen into n (at + long) next (into at a))) e
+      ap (λ (f : Result Record Refusal). on_found f (λ long next. records s seen into n (at + long) next (into at a))) e
 
   pub records_suc :
       (n at : ℕ) (stage : Stage) (a : A) (kind long : ℕ) (next : Stage) →
-      due_at s (seen a) at stage ≡ Record kind long next →
+      due_at s (seen a) at stage ≡ recorded kind long next →
       records s seen into (suc n) at stage a ≡ records s seen into n (at + long) next (into at a)
   unfolding records_by
   records_suc n at stage a kind long next e =
-      ap (λ (f : Found). on_found f (λ long next. records s seen into n (at + long) next (into at a))) e
+      ap (λ (f : Result Record Refusal). on_found f (λ long next. records s seen into n (at + long) next (into at a))) e
 
   pub records_more :
       (n at : ℕ) (stage : Stage) (a : A) (kind long : ℕ) (next : Stage) →
       0 < n →
-      due_at s (seen a) at stage ≡ Record kind long next →
+      due_at s (seen a) at stage ≡ recorded kind long next →
       records s seen into n at stage a ≡ records s seen into (n - 1) (at + long) next (into at a)
   records_more zero at stage a kind long next h e = absurd (not-suc-le-zero h)
   records_more (suc n) at stage a kind long next h e =
@@ -51,7 +51,7 @@ module _ {A : Type 0} (s : List ℕ) (seen : A → Seen) (into : ℕ → A → A
   pub records_behind :
       (n at : ℕ) (stage : Stage) (a : A) (at' : ℕ) (stage' : Stage) (a' : A) (kind long : ℕ) (next : Stage) →
       records s seen into n at stage a ≡ reached at' stage' a' →
-      due_at s (seen a') at' stage' ≡ Record kind long next →
+      due_at s (seen a') at' stage' ≡ recorded kind long next →
       records s seen into (suc n) at stage a ≡ reached (at' + long) next (into at' a')
   records_behind zero at stage a at' stage' a' kind long next e d =
       let q = sym (records_none at stage a) ∙ e in
@@ -64,16 +64,16 @@ module _ {A : Type 0} (s : List ℕ) (seen : A → Seen) (into : ℕ → A → A
       go (due_at s (seen a) at stage) refl
       (λ at'' stage'' a'' e'. records_behind n at'' stage'' a'' at' stage' a' kind long next e' d)
     where
-      go : (f : Found) →
+      go : (f : Result Record Refusal) →
           due_at s (seen a) at stage ≡ f →
           ((at'' : ℕ) (stage'' : Stage) (a'' : A) →
           records s seen into n at'' stage'' a'' ≡ reached at' stage' a' →
           records s seen into (suc n) at'' stage'' a'' ≡ reached (at' + long) next (into at' a')) →
           records s seen into (suc (suc n)) at stage a ≡ reached (at' + long) next (into at' a')
-      go (Record kind' long' next') d' rest =
-          records_suc (suc n) at stage a kind' long' next' d' ∙
-          rest (at + long') next' (into at a) (sym (records_suc n at stage a kind' long' next' d') ∙ e)
-      go (Refused r) d' rest =
+      go (Ok found) d' rest =
+          records_suc (suc n) at stage a found.kind found.length found.next d' ∙
+          rest (at + found.length) found.next (into at a) (sym (records_suc n at stage a found.kind found.length found.next d') ∙ e)
+      go (Err r) d' rest =
           let none = records_refused (suc n) at stage a r (omega arith) d' in
           let z : ◌≡◌ {A = ℕ} 0 1 = cc in
           absurd (omega arith)
@@ -82,7 +82,7 @@ module _ {A : Type 0} (s : List ℕ) (seen : A → Seen) (into : ℕ → A → A
   pub records_keep :
       (P : ℕ → ℕ → Stage → A → Type 0) →
       ((n at : ℕ) (stage : Stage) (a : A) (kind long : ℕ) (next : Stage) →
-      due_at s (seen a) at stage ≡ Record kind long next → P (suc n) at stage a → P n (at + long) next (into at a)) →
+      due_at s (seen a) at stage ≡ recorded kind long next → P (suc n) at stage a → P n (at + long) next (into at a)) →
       (n at : ℕ) (stage : Stage) (a : A) (end : ℕ) (last : Stage) (b : A) →
       P n at stage a →
       records s seen into n at stage a ≡ reached end last b →
@@ -96,15 +96,15 @@ module _ {A : Type 0} (s : List ℕ) (seen : A → Seen) (into : ℕ → A → A
   records_keep P step (suc n) at stage a end last b p e =
       go (due_at s (seen a) at stage) refl (λ at' stage' a'. records_keep P step n at' stage' a' end last b)
     where
-      go : (f : Found) →
+      go : (f : Result Record Refusal) →
           due_at s (seen a) at stage ≡ f →
           ((at' : ℕ) (stage' : Stage) (a' : A) → P n at' stage' a' → records s seen into n at' stage' a' ≡ reached end last b → P 0 end last
           b) →
           P 0 end last b
-      go (Record kind long next) d rest =
-          rest (at + long) next (into at a) (step n at stage a kind long next d p)
-          (sym (records_suc n at stage a kind long next d) ∙ e)
-      go (Refused r) d rest =
+      go (Ok found) d rest =
+          rest (at + found.length) found.next (into at a) (step n at stage a found.kind found.length found.next d p)
+          (sym (records_suc n at stage a found.kind found.length found.next d) ∙ e)
+      go (Err r) d rest =
           let none = records_refused (suc n) at stage a r (omega arith) d in
           let z : ◌≡◌ {A = ℕ} 0 1 = cc in
           absurd (omega arith)
@@ -163,13 +163,13 @@ module _ {A : Type 0} (s : List ℕ) (seen : A → Seen) (into : ℕ → A → A
           (ends, r.1.stage_is, rw all at r.2)
         where
           step : (left at' : ℕ) (stage' : Stage) (a' : A) (kind long : ℕ) (next : Stage) →
-              due_at s (seen a') at' stage' ≡ Record kind long next →
+              due_at s (seen a') at' stage' ≡ recorded kind long next →
               (done : ℕ) →
               SoFar done n at stage a (suc left) at' stage' a' →
               I done a' →
               (done : ℕ) × SoFar done n at stage a left (at' + long) next (into at' a') × I done (into at' a')
           step left at' stage' a' kind long next d done p old =
-              let here : due_at s (seen a') at' stage ≡ Record kind long next = rw p.stage_is at d in
+              let here : due_at s (seen a') at' stage ≡ recorded kind long next = rw p.stage_is at d in
               let w = due_kept s (seen a') at' stage here in
               let next_is : next ≡ stage = w.framed.next_at_lem ∙ back in (
                 suc done,
@@ -209,20 +209,20 @@ module _ {A : Type 0} (s : List ℕ) (seen : A → Seen) (into : ℕ → A → A
       One at stage a end last b
   one_record at stage a end last b run = go (due_at s (seen a) at stage) refl
     where
-      go : (f : Found) → due_at s (seen a) at stage ≡ f → One at stage a end last b
-      go (Record kind long next) d =
+      go : (f : Result Record Refusal) → due_at s (seen a) at stage ≡ f → One at stage a end last b
+      go (Ok found) d =
           let w = due_kept s (seen a) at stage d in
-          let only = records_suc 0 at stage a kind long next d ∙ records_none (at + long) next (into at a) in
-          let next_is : next ≡ last = cc in
+          let only = records_suc 0 at stage a found.kind found.length found.next d ∙ records_none (at + found.length) found.next (into at a) in
+          let next_is : found.next ≡ last = cc in
           record {
-            kind = kind;
-            long = long;
+            kind = found.kind;
+            long = found.length;
             whole = rw next_is at w;
             ends = cc;
             last_is = cc w.framed.next_at_lem;
             value_is = cc;
           }
-      go (Refused r) d =
+      go (Err r) d =
           let none = records_refused 1 at stage a r (omega arith) d in
           let z : ◌≡◌ {A = ℕ} 0 1 = cc in
           absurd (omega arith)

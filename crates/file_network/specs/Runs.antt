@@ -1,10 +1,9 @@
 -- Document 01, "Files": what reading gives, and a run of records.
 -- Internal: what computes; `Demand1` of `theorems` says of the readers what the paper says.
 -- Assumes nothing.
-use Rattle.std.specs.Prelude.{Bool, List, ℕ, zero, suc, ◌+◌}
-use Rattle.file_fields.specs.declared.Seen.{Seen}
-use Rattle.file_records.specs.declared.Found.{Found}
-use Rattle.file_records.specs.declared.Found.TheVariants.{Record, Refused as Found-as-Refused}
+use Rattle.std.specs.Prelude.{Bool, List, ℕ, zero, suc, ◌+◌, Result, Ok, Err}
+use Rattle.file_fields.specs.Views.{Seen}
+use Rattle.file_records.specs.declared.Record.{Record}
 use Rattle.network.specs.declared.refusal.Refusal.{Refusal}
 use Rattle.file_stages.specs.declared.Stage.{Stage}
 use Rattle.file_stages.specs.Stages.{every_kind}
@@ -19,9 +18,9 @@ abbrev pub read_on : {A B : Type 0} → Reading A → (ℕ → Stage → A → R
 read_on (refused r) f = refused r
 read_on (reached at stage a) f = f at stage a
 
-abbrev pub on_found : {A : Type 0} → Found → (ℕ → Stage → Reading A) → Reading A
-on_found (Record kind long next) f = f long next
-on_found (Found-as-Refused r) f = refused r
+abbrev pub on_found : {A : Type 0} → Result Record Refusal → (ℕ → Stage → Reading A) → Reading A
+on_found (Ok found) f = f found.length found.next
+on_found (Err r) f = refused r
 
 -- "Records are read from the front, rules 1 to 12 within each record": so many records from an offset and a stage on, each
 -- taken in by `into` where it breaks no rule; `seen` is what its rules may ask of what was read before it, `known` the kinds that are known

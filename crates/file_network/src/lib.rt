@@ -6,51 +6,28 @@ pub mod reader;
 ghost use Rattle.std.specs.Prelude.{◌≡◌};
 ghost use Rattle.file_network.specs.Inputs.{network_input, network_read, ended_by};
 
-use crate::reader::{Reached, network_file};
+use crate::reader::network_file;
 use network::Network;
-use network::refusal::{Answer, Refusal, Rule};
-
-#[derive(Clone, Copy)]
-pub struct NetworkRead {
-    pub answer: Answer,
-    pub net: Network,
-}
+use network::refusal::{Refusal, Rule};
 
 // Rule 13: no byte follows the last end record.
-pub fn ended(s: &[u8], reached: Reached) -> Answer
-    ensures { result ≡ ended_by s.now reached }
+pub fn ended(s: &[u8], at: usize) -> Result<(), Refusal>
+    ensures { result ≡ ended_by s.now at }
 {
-    match reached {
-        Reached::Refused(refusal) => {
-            return Answer::Refused(refusal);
-        }
-        Reached::At(at, _) => {
-            if at < s.len() {
-                return Answer::Refused(Refusal {
-                    rule: Rule::ByteAfterEnd,
-                    place: at,
-                });
-            }
-            return Answer::Accepted;
-        }
+    if at < s.len() {
+        return Err(Refusal {
+            rule: Rule::ByteAfterEnd,
+            place: at,
+        });
     }
+    Ok(())
 }
 
 // The planner's input.
-pub fn read_network(s: &[u8]) -> NetworkRead
+pub fn read_network(s: &[u8]) -> Result<Network, Refusal>
     ensures { result ≡ network_read (network_input s.now) }
 {
-    let part = network_file(s);
-    let reached = part.reached;
-    let answer = ended(s, reached);
-    match answer {
-        Answer::Accepted => {
-            let net = part.net;
-            return NetworkRead { answer, net };
-        }
-        Answer::Refused(_) => {
-            let net = Network::empty();
-            return NetworkRead { answer, net };
-        }
-    }
+    let part = network_file(s)?;
+    ended(s, part.at)?;
+    Ok(part.value)
 }

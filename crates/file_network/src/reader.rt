@@ -3,40 +3,24 @@ ghost use Rattle.std.specs.Prelude.{◌≡◌, ◌+◌, ◌<◌, ◌≤◌, leng
 ghost use Rattle.file_fields.specs.Fields.{word};
 ghost use Rattle.file_fields.specs.Views.{nothing_seen, network_seen};
 ghost use Rattle.network.specs.Networks.{empty_network};
-ghost use Rattle.file_network.specs.Runs.{records, always, refused};
+ghost use Rattle.file_network.specs.Runs.{records, always};
 ghost use Rattle.file_network.specs.NetworkFiles.{narrow_element, wide_element, element_of, ElementThere, LinkThere, guard_of, link_of, with_element, with_link, network_file, elements_on, links_on, end_on};
-ghost use Rattle.file_network.specs.Inputs.{network_part};
+ghost use Rattle.file_network.specs.Inputs.{part_of};
 ghost use Rattle.file_stages.specs.declared.Stage.{Stage};
 ghost use Rattle.file_stages.specs.declared.Stage.TheVariants.{Elements, Links};
 
-use file_fields::{wide_word_at, word_at};
-use file_records::{Found, record_due};
+use file_fields::{Seen, wide_word_at, word_at};
+use file_records::due_at;
 use file_stages::{Stage, after_last};
 use network::refusal::Refusal;
 use network::{Element, Link, Network};
 
-// How far reading came: the offset and the stage of the record that is due next, or the refusal.
+// What has been read, with the offset and the stage of the record that is due next.
 #[derive(Clone, Copy)]
-pub enum Reached {
-    At(usize, Stage),
-    Refused(Refusal),
-}
-
-// What has been read; the empty network where it was refused.
-#[derive(Clone, Copy)]
-pub struct NetworkPart {
-    pub reached: Reached,
-    pub net: Network,
-}
-
-fn refused_network(refusal: Refusal) -> NetworkPart
-    ensures { result ≡ network_part (refused refusal) }
-{
-    let net = Network::empty();
-    NetworkPart {
-        reached: Reached::Refused(refusal),
-        net,
-    }
+pub struct Part<T> {
+    pub value: T,
+    pub at: usize,
+    pub stage: Stage,
 }
 
 // The fields of the element record of kind 2 at an offset.
@@ -111,152 +95,119 @@ fn link_at(s: &[u8], at: usize, kind: u16) -> Link
 }
 
 // So many element records from an offset on.
-fn read_elements(s: &[u8], count: usize, start: usize, first: Stage) -> NetworkPart
+fn read_elements(
+    s: &[u8],
+    count: usize,
+    start: usize,
+    first: Stage,
+) -> Result<Part<Network>, Refusal>
     requires { (count ≤ 64) × (first ≡ Elements) }
-    ensures { result ≡ network_part (records s.now (always nothing_seen) (with_element s.now) count start first empty_network) }
+    ensures { result ≡ part_of (records s.now (always nothing_seen) (with_element s.now) count start first empty_network) }
 {
-    let none: [u16; 96] = [0; 96];
+    let none = [0; 96];
+    let seen = Seen {
+        elements: 0,
+        links: 0,
+        form: &none,
+    };
     let mut net = Network::empty();
     let mut at = start;
     let mut stage = first;
-    let mut left = count;
-    while 0 < left {
-        let found = record_due(s, at, stage, 0, 0, &none);
-        match found {
-            Found::Refused(refusal) => {
-                return refused_network(refusal);
-            }
-            Found::Record { kind, length, next } => {
-                let element = element_at(s, at, kind);
-                let i = net.elements;
-                net.load[i] = element.load;
-                net.capacity[i] = element.capacity;
-                net.flags[i] = element.flags;
-                net.elements = i + 1;
-                at += length as usize;
-                stage = next;
-                left -= 1;
-            }
-        }
+    for i in 0..count {
+        let record = due_at(s, at, stage, seen)?;
+        let element = element_at(s, at, record.kind);
+        net.load[i] = element.load;
+        net.capacity[i] = element.capacity;
+        net.flags[i] = element.flags;
+        net.elements = i + 1;
+        at += record.length as usize;
+        stage = record.next;
     }
-    NetworkPart {
-        reached: Reached::At(at, stage),
-        net,
-    }
+    let value = net;
+    Ok(Part { value, at, stage })
 }
 
 // So many link records from an offset on, after the elements.
-fn read_links(s: &[u8], count: usize, start: usize, first: Stage, elements: Network) -> NetworkPart
-    requires { (elements.links + count ≤ 96) × (first ≡ Links) }
-    ensures { result ≡ network_part (records s.now network_seen (with_link s.now) count start first elements) }
+fn read_links(
+    s: &[u8],
+    count: usize,
+    start: usize,
+    first: Stage,
+    elements: Network,
+) -> Result<Part<Network>, Refusal>
+    requires { (count ≤ 96) × (elements.links ≡ 0) × (first ≡ Links) }
+    ensures { result ≡ part_of (records s.now network_seen (with_link s.now) count start first elements) }
 {
-    let e = elements.elements;
-    let mut form = elements.form;
     let mut net = elements;
     let mut at = start;
     let mut stage = first;
-    let mut left = count;
-    while 0 < left {
-        let found = record_due(s, at, stage, e, net.links, &form);
-        match found {
-            Found::Refused(refusal) => {
-                return refused_network(refusal);
-            }
-            Found::Record { kind, length, next } => {
-                let link = link_at(s, at, kind);
-                let i = net.links;
-                net.from[i] = link.from;
-                net.to[i] = link.to;
-                form[i] = link.form;
-                net.form[i] = link.form;
-                net.cost[i] = link.cost;
-                net.guard[i] = link.guard;
-                net.links = i + 1;
-                at += length as usize;
-                stage = next;
-                left -= 1;
-            }
-        }
+    for i in 0..count {
+        let seen = Seen {
+            elements: net.elements,
+            links: net.links,
+            form: &net.form,
+        };
+        let record = due_at(s, at, stage, seen)?;
+        let link = link_at(s, at, record.kind);
+        net.from[i] = link.from;
+        net.to[i] = link.to;
+        net.form[i] = link.form;
+        net.cost[i] = link.cost;
+        net.guard[i] = link.guard;
+        net.links = i + 1;
+        at += record.length as usize;
+        stage = record.next;
     }
-    NetworkPart {
-        reached: Reached::At(at, stage),
-        net,
-    }
+    let value = net;
+    Ok(Part { value, at, stage })
 }
 
-fn end_on(s: &[u8], at: usize, stage: Stage, net: Network) -> NetworkPart
-    ensures { result ≡ network_part (end_on s.now at stage net) }
+fn end_on(s: &[u8], at: usize, stage: Stage, net: Network) -> Result<Part<Network>, Refusal>
+    ensures { result ≡ part_of (end_on s.now at stage net) }
 {
-    let none: [u16; 96] = [0; 96];
-    let found = record_due(s, at, stage, 0, 0, &none);
-    match found {
-        Found::Refused(refusal) => {
-            return refused_network(refusal);
-        }
-        Found::Record {
-            kind: _,
-            length,
-            next,
-        } => {
-            let after = at + length as usize;
-            return NetworkPart {
-                reached: Reached::At(after, next),
-                net,
-            };
-        }
-    }
+    let none = [0; 96];
+    let seen = Seen {
+        elements: 0,
+        links: 0,
+        form: &none,
+    };
+    let record = due_at(s, at, stage, seen)?;
+    let after = at + record.length as usize;
+    Ok(Part {
+        value: net,
+        at: after,
+        stage: record.next,
+    })
 }
 
-fn links_on(s: &[u8], at: usize, stage: Stage, net: Network) -> NetworkPart
-    requires { (8 ≤ length s.now) × (net.links + word s.now 6 ≤ 96) × (stage ≡ Links) }
-    ensures { result ≡ network_part (links_on s.now at stage net) }
+fn links_on(s: &[u8], at: usize, stage: Stage, net: Network) -> Result<Part<Network>, Refusal>
+    requires { (8 ≤ length s.now) × (word s.now 6 ≤ 96) × (net.links ≡ 0) × (stage ≡ Links) }
+    ensures { result ≡ part_of (links_on s.now at stage net) }
 {
     let count = word_at(s, 6) as usize;
-    let part = read_links(s, count, at, stage, net);
-    let reached = part.reached;
-    match reached {
-        Reached::Refused(_) => {
-            return part;
-        }
-        Reached::At(after, next) => {
-            return end_on(s, after, after_last(next), part.net);
-        }
-    }
+    let part = read_links(s, count, at, stage, net)?;
+    end_on(s, part.at, after_last(part.stage), part.value)
 }
 
-fn elements_on(s: &[u8], at: usize, stage: Stage) -> NetworkPart
+fn elements_on(s: &[u8], at: usize, stage: Stage) -> Result<Part<Network>, Refusal>
     requires { (8 ≤ length s.now) × (word s.now 4 ≤ 64) × (word s.now 6 ≤ 96) × (stage ≡ Elements) }
-    ensures { result ≡ network_part (elements_on s.now at stage empty_network) }
+    ensures { result ≡ part_of (elements_on s.now at stage empty_network) }
 {
     let count = word_at(s, 4) as usize;
-    let part = read_elements(s, count, at, stage);
-    let reached = part.reached;
-    match reached {
-        Reached::Refused(_) => {
-            return part;
-        }
-        Reached::At(after, next) => {
-            return links_on(s, after, after_last(next), part.net);
-        }
-    }
+    let part = read_elements(s, count, at, stage)?;
+    links_on(s, part.at, after_last(part.stage), part.value)
 }
 
 // The network file at the front of `s`, whatever follows it.
-pub fn network_file(s: &[u8]) -> NetworkPart
-    ensures { result ≡ network_part (network_file s.now) }
+pub fn network_file(s: &[u8]) -> Result<Part<Network>, Refusal>
+    ensures { result ≡ part_of (network_file s.now) }
 {
-    let none: [u16; 96] = [0; 96];
-    let found = record_due(s, 0, Stage::Head, 0, 0, &none);
-    match found {
-        Found::Refused(refusal) => {
-            return refused_network(refusal);
-        }
-        Found::Record {
-            kind: _,
-            length,
-            next,
-        } => {
-            return elements_on(s, length as usize, next);
-        }
-    }
+    let none = [0; 96];
+    let seen = Seen {
+        elements: 0,
+        links: 0,
+        form: &none,
+    };
+    let head = due_at(s, 0, Stage::Head, seen)?;
+    elements_on(s, head.length as usize, head.next)
 }

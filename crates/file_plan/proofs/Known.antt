@@ -7,9 +7,8 @@ use Prim.Native.Nat.{ℕ, ◌+◌}
 use Rattle.file_stages.specs.declared.Stage.{Stage}
 use Rattle.file_stages.specs.declared.Stage.TheVariants.{PlanHead}
 use Rattle.file_stages.specs.Stages.{after_last}
-use Rattle.file_fields.specs.declared.Seen.{Seen}
+use Rattle.file_fields.specs.Views.{Seen, links_seen}
 use Rattle.file_fields.specs.Fields.{word}
-use Rattle.file_fields.specs.Views.{links_seen}
 use Rattle.file_network.specs.Runs.{records_by, records, always, as_is}
 use Rattle.file_network.specs.Inputs.{closed}
 use Rattle.file_records.specs.Records.{length_field}

@@ -1,8 +1,6 @@
-pub mod Outcomes
 pub mod Taken
 pub mod Parts
 pub mod Chains
-pub mod Inputs
 pub mod Sizes
 pub mod Contents
 pub mod Accepted

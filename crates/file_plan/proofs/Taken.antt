@@ -9,18 +9,20 @@ use Rattle.file_plan.specs.declared.plan.Plan.{Plan}
 use Rattle.file_fields.specs.Fields.{word}
 use Rattle.file_plan.specs.PlanFiles.{with_step}
 
-abbrev pub step_taken : Plan → ℕ → ℕ → Plan
-step_taken p link state =
+-- a step stored at an index
+abbrev pub step_put : Plan → ℕ → ℕ → ℕ → Plan
+step_put p i link state =
     record {
-      link = set p.link p.steps link;
-      close = set p.close p.steps (eqb state 1);
+      link = set p.link i link;
+      close = set p.close i (eqb state 1);
       steps = p.steps + 1;
     }
 
-pub step_taken_lem :
-    (s : List ℕ) (at : ℕ) (p : Plan) (link state : ℕ) →
+pub step_taken :
+    (s : List ℕ) (at i : ℕ) (p : Plan) (link state : ℕ) →
+    p.steps ≡ i →
     link ≡ word s (at + 4) →
     state ≡ word s (at + 6) →
-    step_taken p link state ≡ with_step s at p
+    step_put p i link state ≡ with_step s at p
 unfolding with_step
-step_taken_lem s at p link state hl hs = rw (hl, hs)
+step_taken s at i p link state same hl hs = rw (hl, hs, same)

@@ -1,17 +1,13 @@
 -- Document 01: a plan file as input, and what a refusal hands out.
 -- Internal: what `read_plan` computes; of a plan file behind its network file `Demand1` of `theorems` says what the paper says.
 -- Assumes nothing.
-use Rattle.std.specs.Prelude.{Bool, List, ℕ}
+use Rattle.std.specs.Prelude.{Bool, List, ℕ, Result}
+use Rattle.network.specs.declared.refusal.Refusal.{Refusal}
 use Rattle.file_stages.specs.Stages.{every_kind}
 use Rattle.file_network.specs.Runs.{Reading, read_on}
-use Rattle.file_network.specs.Inputs.{reached_of, value_of, closed, answer_of}
+use Rattle.file_network.specs.Inputs.{closed, read_of}
 use Rattle.file_plan.specs.declared.plan.Plan.{Plan}
-use Rattle.file_plan.specs.declared.reader.PlanPart.{PlanPart}
-use Rattle.file_plan.specs.declared.PlanRead.{PlanRead}
-use Rattle.file_plan.specs.PlanFiles.{empty_plan, plan_file_by}
-
-unfoldable pub plan_part : Reading Plan → PlanPart
-plan_part o = record { reached = reached_of o; plan = value_of empty_plan o }
+use Rattle.file_plan.specs.PlanFiles.{plan_file_by}
 
 -- one plan file from an offset on, for a network of so many links
 unfoldable pub plan_input_by : (ℕ → Bool) → List ℕ → ℕ → ℕ → Reading Plan
@@ -20,5 +16,5 @@ plan_input_by known s links at = read_on (plan_file_by known s links at) (closed
 abbrev pub plan_input : List ℕ → ℕ → ℕ → Reading Plan
 plan_input = plan_input_by every_kind
 
-unfoldable pub plan_read : Reading Plan → PlanRead
-plan_read o = record { answer = answer_of o; plan = value_of empty_plan o }
+abbrev pub plan_read : Reading Plan → Result Plan Refusal
+plan_read = read_of

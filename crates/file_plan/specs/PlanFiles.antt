@@ -1,11 +1,11 @@
 -- Document 01, "Files": the plan file.
+-- Internal: what computes; `Demand1` of `theorems` says of the readers what the paper says.
 -- Assumes nothing.
 use Rattle.std.specs.Prelude.{Bool, false, List, ℕ, ◌+◌, eqb, set, replicate}
 use Rattle.file_stages.specs.declared.Stage.{Stage}
 use Rattle.file_stages.specs.declared.Stage.TheVariants.{PlanHead}
-use Rattle.file_fields.specs.declared.Seen.{Seen}
+use Rattle.file_fields.specs.Views.{Seen, links_seen}
 use Rattle.file_fields.specs.Fields.{word}
-use Rattle.file_fields.specs.Views.{links_seen}
 use Rattle.file_stages.specs.Stages.{every_kind, after_last}
 use Rattle.file_network.specs.Runs.{Reading, read_on, records_by, always, as_is}
 use Rattle.file_plan.specs.declared.plan.Plan.{Plan}

@@ -10,29 +10,13 @@ ghost use Rattle.file_plan.specs.Inputs.{plan_input, plan_read};
 use crate::plan::Plan;
 use crate::reader::plan_file;
 use file_network::ended;
-use network::refusal::Answer;
-
-#[derive(Clone, Copy)]
-pub struct PlanRead {
-    pub answer: Answer,
-    pub plan: Plan,
-}
+use network::refusal::Refusal;
 
 // A plan file alone, from an offset on, for a network of so many links.
-pub fn read_plan(s: &[u8], at: usize, links: usize) -> PlanRead
+pub fn read_plan(s: &[u8], at: usize, links: usize) -> Result<Plan, Refusal>
     ensures { result ≡ plan_read (plan_input s.now links at) }
 {
-    let part = plan_file(s, at, links);
-    let reached = part.reached;
-    let answer = ended(s, reached);
-    match answer {
-        Answer::Accepted => {
-            let plan = part.plan;
-            return PlanRead { answer, plan };
-        }
-        Answer::Refused(_) => {
-            let plan = Plan::empty();
-            return PlanRead { answer, plan };
-        }
-    }
+    let part = plan_file(s, at, links)?;
+    ended(s, part.at)?;
+    Ok(part.value)
 }

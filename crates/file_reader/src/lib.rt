@@ -2,45 +2,20 @@
 #![tactic(auto)]
 
 ghost use Rattle.std.specs.Prelude.{◌≡◌, ◌-◌, length};
+ghost use Rattle.file_fields.specs.Views.{seen_in};
 ghost use Rattle.file_records.specs.Records.{due_at};
-ghost use Rattle.file_reader.specs.Readers.{behind, moved_on, moved_to};
+ghost use Rattle.file_reader.specs.Readers.{behind, moved_to};
 
 use file_fields::Seen;
-use file_records::{Found, bytes_left, due_at};
+use file_records::{Record, bytes_left, due_at};
 use file_stages::Stage;
+use network::refusal::Refusal;
 
 // Lent bytes, and the offset at which the next record is due.
 #[derive(Clone, Copy)]
 pub struct Reader<'a> {
     pub src: &'a [u8],
     pub at: usize,
-}
-
-// What was found, and the offset at which the next record is due.
-#[derive(Clone, Copy)]
-struct Moved {
-    found: Found,
-    at: usize,
-}
-
-// The record due at an offset, and where a reader then stands: behind it, or at the same offset where it was refused.
-fn moved_on(s: &[u8], at: usize, stage: Stage, seen: Seen) -> Moved
-    ensures { result ≡ moved_on (due_at s.now seen at stage) at }
-{
-    let found = due_at(s, at, stage, seen);
-    match found {
-        Found::Refused(_) => {
-            return Moved { found, at };
-        }
-        Found::Record {
-            kind: _,
-            length,
-            next: _,
-        } => {
-            let after = at + length as usize;
-            return Moved { found, at: after };
-        }
-    }
 }
 
 impl<'a> Reader<'a> {
@@ -65,18 +40,18 @@ impl<'a> Reader<'a> {
     }
 
     // The record due where the reader stands; the reader stays there.
-    pub fn due(self, stage: Stage, seen: Seen) -> Found
-        ensures { result ≡ due_at self.entry.src.now seen self.entry.at stage }
+    pub fn due(self, stage: Stage, seen: Seen) -> Result<Record, Refusal>
+        ensures { result ≡ due_at self.entry.src.now (seen_in seen.entry) self.entry.at stage }
     {
         due_at(self.src, self.at, stage, seen)
     }
 
     // The record due where the reader stands; the reader moves behind it, or stays where it is refused.
-    pub fn next(&mut self, stage: Stage, seen: Seen) -> Found
-        ensures { (result ≡ due_at self.old.src.now seen self.old.at stage) × (self.new ≡ moved_to self.old (behind result self.old.at)) }
+    pub fn next(&mut self, stage: Stage, seen: Seen) -> Result<Record, Refusal>
+        ensures { (result ≡ due_at self.old.src.now (seen_in seen.entry) self.old.at stage) × (self.new ≡ moved_to self.old (behind result self.old.at)) }
     {
-        let moved = moved_on(self.src, self.at, stage, seen);
-        self.at = moved.at;
-        moved.found
+        let record = due_at(self.src, self.at, stage, seen)?;
+        self.at += record.length as usize;
+        Ok(record)
     }
 }

@@ -8,15 +8,15 @@ use native.Mathlib.Omega.{arith}
 use lib.Dec.{eqb, ltb}
 use lib.ListN.{length}
 use borrow.Author.Tests.{le-ltb, eq-eqb, eqb-true}
+use Rattle.std.specs.Prelude.{Result, Ok, Err}
+use Rattle.network.specs.declared.refusal.Refusal.{Refusal}
+use Rattle.network.specs.declared.refusal.Rule.{Rule}
+use Rattle.file_records.specs.declared.Record.{Record}
 use Rattle.network.specs.declared.refusal.Rule.TheVariants.{RecordMissing, KindOutOfPlace, WrongLength, RecordCutOff}
-use Rattle.network.specs.declared.refusal.Verdict.{Verdict}
-use Rattle.network.specs.declared.refusal.Verdict.TheVariants.{Kept, Broken}
 use Rattle.file_stages.specs.declared.Stage.{Stage}
-use Rattle.file_records.specs.declared.Found.{Found}
-use Rattle.file_records.specs.declared.Found.TheVariants.{Record, Refused}
 use Rattle.network.specs.Refusals.{pick, first_broken}
 use Rattle.file_stages.specs.Stages.{next_stage}
-use Rattle.file_fields.specs.declared.Seen.{Seen}
+use Rattle.file_fields.specs.Views.{Seen}
 use Rattle.file_fields.specs.Fields.{word, length_of, head_rules, flags_rules, plain_link_rules, guard_rules, link_rules, plan_head_rules, step_rules, field_rules}
 use Rattle.file_records.specs.Records.{length_field, kind_field, is_refused, found_by, frame_rules, frame_rules_by, record_rules, record_rules_by, record_at, due_at, due_by}
 use Rattle.network.proofs.FirstBroken.{else_first, first_append}
@@ -100,23 +100,23 @@ fields_alike s t at at' kind seen =
 -- One record, due at two places.
 
 -- the same find at another place
-abbrev pub placed : ℕ → Found → Found
-placed at (Record kind long next) = Record kind long next
-placed at (Refused r) = Refused (record { rule = r.rule; place = at })
+abbrev pub placed : ℕ → Result Record Refusal → Result Record Refusal
+placed at (Ok r) = Ok r
+placed at (Err r) = Err (record { rule = r.rule; place = at })
 
 -- a test behind three others matters only where those let it come to that
 behind_three :
-    (c d e f f' : Bool) (w x y z : Verdict) →
+    (c d e f f' : Bool) (w x y z : Result Unit Rule) →
     (pick c false (pick d false e) ≡ true → f ≡ f') →
-    pick c w (pick d x (pick (not e) y (pick f z Kept))) ≡ pick c w (pick d x (pick (not e) y (pick f' z Kept)))
+    pick c w (pick d x (pick (not e) y (pick f z (Ok tt)))) ≡ pick c w (pick d x (pick (not e) y (pick f' z (Ok tt))))
 behind_three true d e f f' w x y z h = refl
 behind_three false true e f f' w x y z h = refl
-behind_three false false true f f' w x y z h = ap (λ (q : Bool). pick q z Kept) (h refl)
+behind_three false false true f f' w x y z h = ap (λ (q : Bool). pick q z (Ok tt)) (h refl)
 behind_three false false false f f' w x y z h = refl
 
-or_else_same : (u v w : Verdict) → (u ≡ Kept → v ≡ w) → else_first u v ≡ else_first u w
-or_else_same Kept v w h = h refl
-or_else_same (Broken r) v w h = refl
+or_else_same : (u v w : Result Unit Rule) → (u ≡ Ok tt → v ≡ w) → else_first u v ≡ else_first u w
+or_else_same (Ok t) v w h = h refl
+or_else_same (Err r) v w h = refl
 
 module _ (s t : List ℕ) (at at' upto : ℕ) (stage : Stage) (same : SameFrom s t at at' upto) (far : at + looks_at s at stage ≤ upto) where
   four : at + 4 ≤ upto
@@ -128,7 +128,7 @@ module _ (s t : List ℕ) (at at' upto : ℕ) (stage : Stage) (same : SameFrom s
       rw (← first_word same (omega (arith, four)), ← same.words 2 (omega (arith, four)), ← left_same same 4 four)
       (behind_three (ltb (length s - at) 4) (is_refused (next_stage stage (kind_field s at))) (eqb (length_field s at) (length_of (kind_field s at)))
       (ltb (length s - at) (length_field s at)) (ltb (length t - at') (length_field s at))
-      (Broken RecordMissing) (Broken KindOutOfPlace) (Broken WrongLength) (Broken RecordCutOff)
+      (Err RecordMissing) (Err KindOutOfPlace) (Err WrongLength) (Err RecordCutOff)
       (λ h. left_same same (length_field s at) (rw h at far)))
 
   verdict_alike : (seen : Seen) → first_broken (record_rules s seen at stage) ≡ first_broken (record_rules t seen at' stage)
@@ -142,12 +142,12 @@ module _ (s t : List ℕ) (at at' upto : ℕ) (stage : Stage) (same : SameFrom s
       ap first_broken
       (fields_alike s t at at' (kind_field s at) seen (λ i h. same.words i (omega (arith, f.long_of, far))) ∙
       ap (λ (k : ℕ). field_rules t at' k seen) (same.words 2 (omega (arith, four))))) ∙
-      ap (λ (v : Verdict). else_first v (first_broken (field_rules t at' (kind_field t at') seen))) frame_alike ∙
+      ap (λ (v : Result Unit Rule). else_first v (first_broken (field_rules t at' (kind_field t at') seen))) frame_alike ∙
       sym (first_append (frame_rules t at' stage) (field_rules t at' (kind_field t at') seen))
 
-  found_alike : (v : Verdict) → found_by t at' stage v ≡ placed at' (found_by s at stage v)
-  found_alike Kept = rw (first_word same (omega (arith, four)), same.words 2 (omega (arith, four)))
-  found_alike (Broken r) = refl
+  found_alike : (v : Result Unit Rule) → found_by t at' stage v ≡ placed at' (found_by s at stage v)
+  found_alike (Ok t) = rw (first_word same (omega (arith, four)), same.words 2 (omega (arith, four)))
+  found_alike (Err r) = refl
 
   -- where the bytes are the same as far as the record looks, the same is found
   pub due_alike : (seen : Seen) → due_at t seen at' stage ≡ placed at' (due_at s seen at stage)

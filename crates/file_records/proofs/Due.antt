@@ -9,22 +9,19 @@ use native.Mathlib.Omega.{arith}
 use lib.Dec.{eqb, ltb, leb}
 use lib.ListN.{length, get_or}
 use borrow.Author.Tests.{ltb-false, leb-false, eqb-true, eqb-false, not-false}
+use Rattle.std.specs.Prelude.{Result, Ok, Err, Option, Some, None}
 use Rattle.network.specs.declared.refusal.Refusal.{Refusal}
 use Rattle.network.specs.declared.refusal.Rule.{Rule}
-use Rattle.network.specs.declared.refusal.Verdict.{Verdict}
-use Rattle.network.specs.declared.refusal.Verdict.TheVariants.{Kept, Broken}
+use Rattle.file_records.specs.declared.Record.{Record}
 use Rattle.file_stages.specs.declared.Stage.{Stage}
 use Rattle.file_stages.specs.declared.Stage.TheVariants.{Head, Elements, Links, End, PlanHead, Steps, PlanEnd, Over}
-use Rattle.file_stages.specs.declared.Next.{Next}
-use Rattle.file_stages.specs.declared.Next.TheVariants.{Go, Refused as Next-as-Refused}
-use Rattle.file_records.specs.declared.Found.TheVariants.{Record, Refused}
 use Rattle.network.specs.Refusals.{first_broken}
 pub use Rattle.network.proofs.FirstBroken.{else_first, first_append, AllKept, all_kept, first_append_kept}
 use Rattle.file_stages.specs.Stages.{goes_to, next_stage, pick as Next·pick}
 use Rattle.network.specs.Accepted.{suits}
-use Rattle.file_fields.specs.declared.Seen.{Seen}
+use Rattle.file_fields.specs.Views.{Seen}
 use Rattle.file_fields.specs.Fields.{word, length_of, either, head_rules, flags_rules, unknown_form, plain_link_rules, guard_rules, link_rules, plan_head_rules, step_rules, field_rules}
-use Rattle.file_records.specs.Records.{length_field, kind_field, is_refused, named, found_by, frame_rules, frame_rules_by, record_rules, record_rules_by, record_at, due_at, due_by}
+use Rattle.file_records.specs.Records.{length_field, kind_field, is_refused, named, found_by, frame_rules, frame_rules_by, record_rules, record_rules_by, record_at, due_at, due_by, recorded}
 
 pub either_false : (a b : Bool) → either a b ≡ false → (a ≡ false) × (b ≡ false)
 either_false true b h = let z : ◌≡◌ {A = ℕ} 0 1 = cc in absurd (omega arith)
@@ -74,21 +71,21 @@ longest Steps = 8
 longest PlanEnd = 4
 longest Over = 0
 
-leads_go : (t : Bool) (st next : Stage) → goes_to t st ≡ Go next → (t ≡ true) × (next ≡ st)
+leads_go : (t : Bool) (st next : Stage) → goes_to t st ≡ Some next → (t ≡ true) × (next ≡ st)
 leads_go true st next h = (refl, cc)
 leads_go false st next h = let z : ◌≡◌ {A = ℕ} 0 1 = cc in absurd (omega arith)
 
-leads_one : (k n : ℕ) (st next : Stage) → goes_to (eqb k n) st ≡ Go next → (k ≡ n) × (next ≡ st)
+leads_one : (k n : ℕ) (st next : Stage) → goes_to (eqb k n) st ≡ Some next → (k ≡ n) × (next ≡ st)
 leads_one k n st next h = let l = leads_go (eqb k n) st next h in (eqb-true k n l.0, l.1)
 
-leads_two : (k m n : ℕ) (st next : Stage) → Next·pick (eqb k n) (Go st) (goes_to (eqb k m) st) ≡ Go next → ((k ≡ m) ⊎ (k ≡ n)) × (next ≡ st)
+leads_two : (k m n : ℕ) (st next : Stage) → Next·pick (eqb k n) (Some st) (goes_to (eqb k m) st) ≡ Some next → ((k ≡ m) ⊎ (k ≡ n)) × (next ≡ st)
 leads_two k m n st next h = one_of (eqb k n) refl h
   where
-    one_of : (t : Bool) → eqb k n ≡ t → Next·pick t (Go st) (goes_to (eqb k m) st) ≡ Go next → ((k ≡ m) ⊎ (k ≡ n)) × (next ≡ st)
+    one_of : (t : Bool) → eqb k n ≡ t → Next·pick t (Some st) (goes_to (eqb k m) st) ≡ Some next → ((k ≡ m) ⊎ (k ≡ n)) × (next ≡ st)
     one_of true e h = (inr (eqb-true k n e), cc)
     one_of false e h = let l = leads_one k m st next h in (inl l.0, l.1)
 
-pub goes_one_way : (st : Stage) (k : ℕ) (next : Stage) → next_stage st k ≡ Go next → KindAt st k × (next ≡ next_at st)
+pub goes_one_way : (st : Stage) (k : ℕ) (next : Stage) → next_stage st k ≡ Some next → KindAt st k × (next ≡ next_at st)
 unfolding next_stage
 goes_one_way Head k next h = leads_one k 1 Elements next h
 goes_one_way Elements k next h = leads_two k 2 7 Elements next h
@@ -129,7 +126,7 @@ pub record Framed (s : List ℕ) (at : ℕ) (stage : Stage) (kind long : ℕ) (n
   pub kind_is : kind ≡ kind_field s at
   pub long_is : long ≡ length_field s at
   pub long_of : long ≡ length_of kind
-  pub goes : next_stage stage kind ≡ Go next
+  pub goes : next_stage stage kind ≡ Some next
   pub fits : at + long ≤ length s
   pub least : 4 ≤ long
   pub enough : shortest stage ≤ long
@@ -139,28 +136,41 @@ pub record Framed (s : List ℕ) (at : ℕ) (stage : Stage) (kind long : ℕ) (n
 -- What rules 1 to 12 and 20 promise: the tests of rules 5 to 12 and 20 that speak of the record's kind are false too.
 pub record Whole (s : List ℕ) (seen : Seen) (at : ℕ) (stage : Stage) (kind long : ℕ) (next : Stage) : Type 0 where
   pub framed : Framed s at stage kind long next
-  pub kept : first_broken (record_rules s seen at stage) ≡ Kept
+  pub kept : first_broken (record_rules s seen at stage) ≡ Ok tt
   pub fields : AllKept (field_rules s at kind seen)
 
+-- what a record that is found says
+abbrev kind_of : Result Record Refusal → ℕ
+kind_of (Ok r) = r.kind
+kind_of (Err r) = 0
+
+abbrev long_of : Result Record Refusal → ℕ
+long_of (Ok r) = r.length
+long_of (Err r) = 0
+
+abbrev next_of : Result Record Refusal → Stage
+next_of (Ok r) = r.next
+next_of (Err r) = Head
+
 found_kept :
-    (s : List ℕ) (at : ℕ) (stage : Stage) (v : Verdict) (kind long : ℕ) (next : Stage) →
-    found_by s at stage v ≡ Record kind long next →
-    (v ≡ Kept) × (kind_field s at ≡ kind) × (length_field s at ≡ long) × (named (next_stage stage (kind_field s at)) stage ≡ next)
-found_kept s at stage Kept kind long next h = (refl, cc, cc, cc)
-found_kept s at stage (Broken r) kind long next h = let z : ◌≡◌ {A = ℕ} 0 1 = cc in absurd (omega arith)
+    (s : List ℕ) (at : ℕ) (stage : Stage) (v : Result Unit Rule) (kind long : ℕ) (next : Stage) →
+    found_by s at stage v ≡ recorded kind long next →
+    (v ≡ Ok tt) × (kind_field s at ≡ kind) × (length_field s at ≡ long) × (named (next_stage stage (kind_field s at)) stage ≡ next)
+found_kept s at stage (Ok t) kind long next h = (refl, ap kind_of h, ap long_of h, ap next_of h)
+found_kept s at stage (Err r) kind long next h = let z : ◌≡◌ {A = ℕ} 0 1 = cc in absurd (omega arith)
 
 found_refused :
-    (s : List ℕ) (at : ℕ) (stage : Stage) (v : Verdict) (r : Refusal) →
-    found_by s at stage v ≡ Refused r →
-    (v ≡ Broken r.rule) × (r.place ≡ at)
-found_refused s at stage Kept r h = let z : ◌≡◌ {A = ℕ} 0 1 = cc in absurd (omega arith)
-found_refused s at stage (Broken x) r h =
+    (s : List ℕ) (at : ℕ) (stage : Stage) (v : Result Unit Rule) (r : Refusal) →
+    found_by s at stage v ≡ Err r →
+    (v ≡ Err r.rule) × (r.place ≡ at)
+found_refused s at stage (Ok t) r h = let z : ◌≡◌ {A = ℕ} 0 1 = cc in absurd (omega arith)
+found_refused s at stage (Err x) r h =
     let q : ◌≡◌ {A = Refusal} (record { rule = x; place = at }) r = cc in
-    (ap Broken (ap (λ (y : Refusal). y.rule) q), sym (ap (λ (y : Refusal). y.place) q))
+    (ap Err (ap (λ (y : Refusal). y.rule) q), sym (ap (λ (y : Refusal). y.place) q))
 
-pub not_refused : (n : Next) (other : Stage) → is_refused n ≡ false → n ≡ Go (named n other)
-not_refused (Go st) other h = refl
-not_refused Next-as-Refused other h = let z : ◌≡◌ {A = ℕ} 0 1 = cc in absurd (omega arith)
+pub not_refused : (n : Option Stage) (other : Stage) → is_refused n ≡ false → n ≡ Some (named n other)
+not_refused (Some st) other h = refl
+not_refused None other h = let z : ◌≡◌ {A = ℕ} 0 1 = cc in absurd (omega arith)
 
 framed_of :
     (s : List ℕ) (at : ℕ) (stage : Stage) (kind long : ℕ) (next : Stage) →
@@ -171,7 +181,7 @@ framed_of :
     Framed s at stage kind long next
 unfolding frame_rules_by
 framed_of s at stage kind long next h hk hl hn =
-    let goes : next_stage stage kind ≡ Go next = cc (not_refused (next_stage stage (kind_field s at)) stage h.1.0) in
+    let goes : next_stage stage kind ≡ Some next = cc (not_refused (next_stage stage (kind_field s at)) stage h.1.0) in
     let one = goes_one_way stage kind next goes in
     let right : length_field s at ≡ length_of (kind_field s at) = eqb-true _ _ (not-false _ h.1.1.0) in
     let long_of : long ≡ length_of kind = cc in
@@ -190,19 +200,19 @@ framed_of s at stage kind long next h hk hl hn =
     }
 
 module _ (s : List ℕ) (at : ℕ) (stage : Stage) where
-  pub frame_kept : {kind long : ℕ} {next : Stage} → record_at s at stage ≡ Record kind long next → Framed s at stage kind long next
+  pub frame_kept : {kind long : ℕ} {next : Stage} → record_at s at stage ≡ recorded kind long next → Framed s at stage kind long next
   unfolding record_at
   frame_kept {kind} {long} {next} h =
       let f = found_kept s at stage (first_broken (frame_rules s at stage)) kind long next h in
       framed_of s at stage kind long next (all_kept (frame_rules s at stage) f.0) f.1 f.2 f.3
 
   pub frame_refused :
-      {r : Refusal} → record_at s at stage ≡ Refused r → (first_broken (frame_rules s at stage) ≡ Broken r.rule) × (r.place ≡ at)
+      {r : Refusal} → record_at s at stage ≡ Err r → (first_broken (frame_rules s at stage) ≡ Err r.rule) × (r.place ≡ at)
   unfolding record_at
   frame_refused {r} h = found_refused s at stage (first_broken (frame_rules s at stage)) r h
 
 module _ (s : List ℕ) (seen : Seen) (at : ℕ) (stage : Stage) where
-  pub due_kept : {kind long : ℕ} {next : Stage} → due_at s seen at stage ≡ Record kind long next → Whole s seen at stage kind long
+  pub due_kept : {kind long : ℕ} {next : Stage} → due_at s seen at stage ≡ recorded kind long next → Whole s seen at stage kind long
       next
   unfolding due_by record_rules_by
   due_kept {kind} {long} {next} h =
@@ -219,38 +229,38 @@ module _ (s : List ℕ) (seen : Seen) (at : ℕ) (stage : Stage) where
 
   pub due_refused :
       {r : Refusal} →
-      due_at s seen at stage ≡ Refused r →
-      (first_broken (record_rules s seen at stage) ≡ Broken r.rule) × (r.place ≡ at)
+      due_at s seen at stage ≡ Err r →
+      (first_broken (record_rules s seen at stage) ≡ Err r.rule) × (r.place ≡ at)
   unfolding due_by
   due_refused {r} h = found_refused s at stage (first_broken (record_rules s seen at stage)) r h
 
   -- `due_at` is `record_at`, then the rules of the kind
-  pub due_frame_refused : (r : Refusal) → record_at s at stage ≡ Refused r → due_at s seen at stage ≡ Refused r
+  pub due_frame_refused : (r : Refusal) → record_at s at stage ≡ Err r → due_at s seen at stage ≡ Err r
   unfolding record_at due_by record_rules_by
   due_frame_refused r h =
       let f = found_refused s at stage (first_broken (frame_rules s at stage)) r h in
       ap (found_by s at stage)
       (first_append (frame_rules s at stage) (field_rules s at (kind_field s at) seen) ∙
-      ap (λ (v : Verdict). else_first v (first_broken (field_rules s at (kind_field s at) seen))) f.0) ∙
-      ap (λ (p : ℕ). Refused (record { rule = r.rule; place = p })) (sym f.1)
+      ap (λ (v : Result Unit Rule). else_first v (first_broken (field_rules s at (kind_field s at) seen))) f.0) ∙
+      ap (λ (p : ℕ). Err (record { rule = r.rule; place = p })) (sym f.1)
 
   pub due_fields :
       (kind long : ℕ) (next : Stage) →
-      record_at s at stage ≡ Record kind long next →
+      record_at s at stage ≡ recorded kind long next →
       due_at s seen at stage ≡ found_by s at stage (first_broken (field_rules s at kind seen))
   unfolding record_at due_by record_rules_by
   due_fields kind long next h =
       let f = found_kept s at stage (first_broken (frame_rules s at stage)) kind long next h in
       ap (found_by s at stage)
       (first_append (frame_rules s at stage) (field_rules s at (kind_field s at) seen) ∙
-      ap (λ (v : Verdict). else_first v (first_broken (field_rules s at (kind_field s at) seen))) f.0 ∙
+      ap (λ (v : Result Unit Rule). else_first v (first_broken (field_rules s at (kind_field s at) seen))) f.0 ∙
       ap (λ (k : ℕ). first_broken (field_rules s at k seen)) f.1)
 
   pub due_fields_kept :
       (kind long : ℕ) (next : Stage) →
-      record_at s at stage ≡ Record kind long next →
-      first_broken (field_rules s at kind seen) ≡ Kept →
-      due_at s seen at stage ≡ Record kind long next
+      record_at s at stage ≡ recorded kind long next →
+      first_broken (field_rules s at kind seen) ≡ Ok tt →
+      due_at s seen at stage ≡ recorded kind long next
   unfolding record_at
   due_fields_kept kind long next h e =
       let f = found_kept s at stage (first_broken (frame_rules s at stage)) kind long next h in
@@ -258,22 +268,22 @@ module _ (s : List ℕ) (seen : Seen) (at : ℕ) (stage : Stage) where
 
   pub due_fields_broken :
       (kind long : ℕ) (next : Stage) (r : Rule) →
-      record_at s at stage ≡ Record kind long next →
-      first_broken (field_rules s at kind seen) ≡ Broken r →
-      due_at s seen at stage ≡ Refused (record { rule = r; place = at })
+      record_at s at stage ≡ recorded kind long next →
+      first_broken (field_rules s at kind seen) ≡ Err r →
+      due_at s seen at stage ≡ Err (record { rule = r; place = at })
   due_fields_broken kind long next r h e = due_fields kind long next h ∙ ap (found_by s at stage) e
 
 -- a record that breaks no rule is found
 pub whole_found :
     {s : List ℕ} {seen : Seen} {at : ℕ} {stage : Stage} {kind long : ℕ} {next : Stage} →
     Whole s seen at stage kind long next →
-    due_at s seen at stage ≡ Record kind long next
+    due_at s seen at stage ≡ recorded kind long next
 unfolding due_by
 whole_found {s} {seen} {at} {stage} {kind} {long} {next} w =
     let f = w.framed in
     let n : named (next_stage stage (kind_field s at)) stage ≡ next =
-    ap (λ (k : ℕ). named (next_stage stage k) stage) (sym f.kind_is) ∙ ap (λ (x : Next). named x stage) f.goes in
-    let here : found_by s at stage Kept ≡ Record kind long next = cc (f.kind_is, f.long_is, n) in
+    ap (λ (k : ℕ). named (next_stage stage k) stage) (sym f.kind_is) ∙ ap (λ (x : Option Stage). named x stage) f.goes in
+    let here : found_by s at stage (Ok tt) ≡ recorded kind long next = cc (f.kind_is, f.long_is, n) in
     ap (found_by s at stage) w.kept ∙ here
 
 -- What rules 5 to 12 and 20 promise of a record: at each stage one of its kinds, and of each kind its own rules.

@@ -1,16 +1,15 @@
 -- Where not every kind is known, a record is found and refused as ever, but that rule 2 refuses one of an unknown kind: by cases on whether its kind is known.
 -- Assumes nothing.
-use mathlib.Core.Path.{◌≡◌, refl, ap}
+use mathlib.Core.Path.{◌≡◌, refl}
 use mathlib.Core.Bool.{Bool, true, false}
 use mathlib.Core.List.{List}
 use Prim.Native.Nat.{ℕ, ◌-◌}
-use native.Mathlib.Omega.{arith}
 use lib.Dec.{ltb}
 use lib.ListN.{length}
+use Rattle.std.specs.Prelude.{Err}
 use Rattle.network.specs.declared.refusal.Rule.TheVariants.{KindOutOfPlace}
 use Rattle.file_stages.specs.declared.Stage.{Stage}
-use Rattle.file_fields.specs.declared.Seen.{Seen}
-use Rattle.file_records.specs.declared.Found.TheVariants.{Refused}
+use Rattle.file_fields.specs.Views.{Seen}
 use Rattle.file_records.specs.Records.{kind_field, frame_rules_by, record_rules_by, due_by, due_at}
 
 module _ (known : ℕ → Bool) (s : List ℕ) (seen : Seen) (at : ℕ) (stage : Stage) where
@@ -23,7 +22,7 @@ module _ (known : ℕ → Bool) (s : List ℕ) (seen : Seen) (at : ℕ) (stage :
   pub unknown_record :
       known (kind_field s at) ≡ false →
       ltb (length s - at) 4 ≡ false →
-      due_by known s seen at stage ≡ Refused (record { rule = KindOutOfPlace; place = at })
+      due_by known s seen at stage ≡ Err (record { rule = KindOutOfPlace; place = at })
   unfolding due_by record_rules_by frame_rules_by
   unknown_record h four = simp (h, four)
 
@@ -34,7 +33,7 @@ module _ (known : ℕ → Bool) (s : List ℕ) (seen : Seen) (at : ℕ) (stage :
 
   -- but for a refusal by rule 2 of an unknown kind nothing changes
   pub due_known :
-      (known (kind_field s at) ≡ false → due_by known s seen at stage ≡ Refused (record { rule = KindOutOfPlace; place = at }) → ⊥) →
+      (known (kind_field s at) ≡ false → due_by known s seen at stage ≡ Err (record { rule = KindOutOfPlace; place = at }) → ⊥) →
       due_by known s seen at stage ≡ due_at s seen at stage
   due_known never = by_kind (known (kind_field s at)) refl
     where

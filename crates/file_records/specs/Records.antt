@@ -1,17 +1,14 @@
 -- Document 01, "Files" and refusals 1 to 12, and document 02's refusal 20: what stands at an offset, by the kinds that are known.
 -- Assumes nothing.
-use Rattle.std.specs.Prelude.{Bool, true, false, not, List, [], ◌∷◌, ◌++◌, ℕ, ◌+◌, ◌-◌, eqb, ltb, length}
+use Rattle.std.specs.Prelude.{Bool, true, false, not, List, [], ◌∷◌, ◌++◌, ℕ, ◌+◌, ◌-◌, eqb, ltb, length, Result, Ok, Err, Option, Some, None}
+use Rattle.network.specs.declared.refusal.Refusal.{Refusal}
+use Rattle.network.specs.declared.refusal.Rule.{Rule}
+use Rattle.file_records.specs.declared.Record.{Record}
 use Rattle.network.specs.declared.refusal.Rule.TheVariants.{RecordMissing, KindOutOfPlace, WrongLength, RecordCutOff}
-use Rattle.network.specs.declared.refusal.Verdict.{Verdict}
-use Rattle.network.specs.declared.refusal.Verdict.TheVariants.{Kept, Broken}
 use Rattle.file_stages.specs.declared.Stage.{Stage}
-use Rattle.file_stages.specs.declared.Next.{Next}
-use Rattle.file_stages.specs.declared.Next.TheVariants.{Go, Refused as Next-as-Refused}
-use Rattle.file_records.specs.declared.Found.{Found}
-use Rattle.file_records.specs.declared.Found.TheVariants.{Record, Refused}
 use Rattle.network.specs.Refusals.{Check, check, first_broken}
 use Rattle.file_stages.specs.Stages.{next_stage, every_kind, next_known}
-use Rattle.file_fields.specs.declared.Seen.{Seen}
+use Rattle.file_fields.specs.Views.{Seen}
 use Rattle.file_fields.specs.Fields.{word, length_of, field_rules}
 
 -- "A record is: its length in bytes (the length field included), its kind, its fields."
@@ -21,14 +18,18 @@ length_field s at = word s at
 abbrev pub kind_field : List ℕ → ℕ → ℕ
 kind_field s at = word s (at + 2)
 
-abbrev pub is_refused : Next → Bool
-is_refused (Go s) = false
-is_refused Next-as-Refused = true
+-- a record that is found
+abbrev pub recorded : ℕ → ℕ → Stage → Result Record Refusal
+recorded kind long next = Ok (record { kind = kind; length = long; next = next })
+
+abbrev pub is_refused : Option Stage → Bool
+is_refused (Some s) = false
+is_refused None = true
 
 -- the stage that the table names, where it names one
-abbrev pub named : Next → Stage → Stage
-named (Go s) other = s
-named Next-as-Refused other = other
+abbrev pub named : Option Stage → Stage → Stage
+named (Some s) other = s
+named None other = other
 
 -- Rules 1 to 4, where these kinds are known:
 -- "Fewer than four bytes remain where a record is due." "The kind isn't one that may come here."
@@ -51,18 +52,18 @@ abbrev pub record_rules : List ℕ → Seen → ℕ → Stage → List Check
 record_rules = record_rules_by every_kind
 
 -- what a verdict on the record at an offset gives: the place is "the offset, in the whole input, of the record's first byte"
-abbrev pub found_by : List ℕ → ℕ → Stage → Verdict → Found
-found_by s at stage Kept =
-    Record (kind_field s at) (length_field s at) (named (next_stage stage (kind_field s at)) stage)
-found_by s at stage (Broken r) = Refused (record { rule = r; place = at })
+abbrev pub found_by : List ℕ → ℕ → Stage → Result Unit Rule → Result Record Refusal
+found_by s at stage (Ok t) =
+    recorded (kind_field s at) (length_field s at) (named (next_stage stage (kind_field s at)) stage)
+found_by s at stage (Err r) = Err (record { rule = r; place = at })
 
 -- the record at an offset by rules 1 to 4
-unfoldable pub record_at : List ℕ → ℕ → Stage → Found
+unfoldable pub record_at : List ℕ → ℕ → Stage → Result Record Refusal
 record_at s at stage = found_by s at stage (first_broken (frame_rules s at stage))
 
 -- the record due at an offset, by what was read before it: rules 1 to 12 and 20
-unfoldable pub due_by : (ℕ → Bool) → List ℕ → Seen → ℕ → Stage → Found
+unfoldable pub due_by : (ℕ → Bool) → List ℕ → Seen → ℕ → Stage → Result Record Refusal
 due_by known s seen at stage = found_by s at stage (first_broken (record_rules_by known s seen at stage))
 
-abbrev pub due_at : List ℕ → Seen → ℕ → Stage → Found
+abbrev pub due_at : List ℕ → Seen → ℕ → Stage → Result Record Refusal
 due_at = due_by every_kind

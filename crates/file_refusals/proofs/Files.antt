@@ -4,12 +4,12 @@ use mathlib.Core.Path.{◌≡◌, refl, sym, ap, subst, ◌∙◌}
 use mathlib.Core.List.{List, [], ◌∷◌, ◌++◌}
 use Prim.Native.Nat.{ℕ, zero, suc, ◌+◌}
 use lib.ListN.{replicate}
+use Rattle.std.specs.Prelude.{Result, Err, Ok}
+use Rattle.file_records.specs.declared.Record.{Record}
 use Rattle.network.specs.declared.refusal.Refusal.{Refusal}
 use Rattle.file_stages.specs.declared.Stage.{Stage}
-use Rattle.file_records.specs.declared.Found.{Found}
-use Rattle.file_records.specs.declared.Found.TheVariants.{Record, Refused}
-use Rattle.file_fields.specs.declared.Seen.{Seen}
-use Rattle.file_records.specs.Records.{length_field, due_at}
+use Rattle.file_fields.specs.Views.{Seen}
+use Rattle.file_records.specs.Records.{length_field, due_at, recorded}
 use Rattle.file_records.proofs.Due.{next_at, due_kept}
 use Rattle.file_network.specs.Runs.{Reading, refused, reached, read_on, on_found, records, records_by}
 use Rattle.file_refusals.specs.Breaking.{Keeps}
@@ -76,15 +76,15 @@ module _ (s : List ℕ) (E K : ℕ) where
 
   -- one record, and what is read behind it
   then_ran : {A : Type 0} (seen : Seen) (at : ℕ) (stage : Stage) (rest : List Stage) (f : ℕ → Stage → Reading A) → Told s E K at stage seen
-      → ((kind long : ℕ) (after : Stage) → due_at s seen at stage ≡ Record kind long after → Ran rest (at + long) (f long after))
+      → ((kind long : ℕ) (after : Stage) → due_at s seen at stage ≡ recorded kind long after → Ran rest (at + long) (f long after))
       → Ran (stage ∷ rest) at (on_found (due_at s seen at stage) f)
   then_ran seen at stage rest f told more = go (due_at s seen at stage) refl
     where
-      go : (d : Found) → due_at s seen at stage ≡ d → Ran (stage ∷ rest) at (on_found d f)
-      go (Record kind long after) d =
-          ran_next at stage rest (f long after) (due_keeps s E K at stage seen told d)
-          (subst (λ (l : ℕ). Ran rest (at + l) (f long after)) (due_kept s seen at stage d).framed.long_is (more kind long after d))
-      go (Refused g) d =
+      go : (d : Result Record Refusal) → due_at s seen at stage ≡ d → Ran (stage ∷ rest) at (on_found d f)
+      go (Ok found) d =
+          ran_next at stage rest (f found.length found.next) (due_keeps s E K at stage seen told d)
+          (subst (λ (l : ℕ). Ran rest (at + l) (f found.length found.next)) (due_kept s seen at stage d).framed.long_is (more found.kind found.length found.next d))
+      go (Err g) d =
           let b = due_breaks s E K at stage seen told g d in
           subst (FirstBreak s E K (stage ∷ rest) at) (ap (λ (p : ℕ). record { rule = g.rule; place = p }) (sym b.1)) (here b.0)
 
@@ -97,7 +97,7 @@ module _ (s : List ℕ) (E K : ℕ) where
   -- records of one stage: Q is what is kept of how many are left, of an offset and of what was read before it, and tells what their rules ask
   pub many_ran : {A : Type 0} (seen : A → Seen) (into : ℕ → A → A) (stage : Stage) (Q : (left at : ℕ) → A → Type 0) → next_at stage ≡ stage
       → ((left at : ℕ) (a : A) → Q left at a → Told s E K at stage (seen a))
-      → ((left at : ℕ) (a : A) (kind long : ℕ) (after : Stage) → due_at s (seen a) at stage ≡ Record kind long after → Q (suc left) at a
+      → ((left at : ℕ) (a : A) (kind long : ℕ) (after : Stage) → due_at s (seen a) at stage ≡ recorded kind long after → Q (suc left) at a
       → Q left (at + long) (into at a))
       → (n at : ℕ) (a : A) → Q n at a → Ran (replicate n stage) at (records s seen into n at stage a)
   unfolding records_by

@@ -6,22 +6,20 @@ use mathlib.Core.Logic.{◌↔◌}
 use Prim.Native.Nat.{ℕ, ◌+◌, ◌<◌}
 use native.Mathlib.Omega.{arith}
 use lib.ListN.{get_or}
+use Rattle.std.specs.Prelude.{Ok, Err}
 use Rattle.network.specs.declared.Network.{Network}
-use Rattle.network.specs.Networks.{empty_network}
 use Rattle.network.specs.Accepted.{WellFormed}
 use Rattle.network.specs.declared.refusal.Refusal.{Refusal}
-use Rattle.network.specs.declared.refusal.Answer.TheVariants.{Accepted, Refused}
 use Rattle.file_stages.specs.declared.Stage.{Stage}
 use Rattle.file_fields.specs.Fields.{word}
 use Rattle.file_network.specs.Runs.{Reading, refused, reached}
-use Rattle.file_network.specs.declared.NetworkRead.{NetworkRead}
 use Rattle.file_network.specs.Inputs.{network_input, network_read}
 use Rattle.file_network.proofs.Sizes.{network_input_size, network_size}
 use Rattle.file_network.proofs.Accepted.{network_well_formed}
 use Rattle.file_plan.specs.declared.plan.Plan.{Plan}
-use Rattle.file_plan.specs.PlanFiles.{empty_plan, plan_file}
-use Rattle.file_both.specs.declared.BothRead.{BothRead}
-use Rattle.file_both.specs.Inputs.{both_input, both_read}
+use Rattle.file_plan.specs.PlanFiles.{plan_file}
+use Rattle.file_both.specs.declared.Both.{Both}
+use Rattle.file_both.specs.Inputs.{both_of, both_input, both_read}
 use Rattle.file_both.proofs.Sizes.{BothSize, both_size}
 use Rattle.file_refusals.specs.Files.{network_stages, plan_stages, NetworkStands, PlanStands, FirstBroken, FirstBrokenBoth}
 use Rattle.file_refusals.specs.Stated.{States, StatesPlan, NetworkOf, BothOf}
@@ -34,18 +32,12 @@ use Rattle.file_refusals.proofs.StatedPlan.{plan_states, plan_states_once}
 
 module _ (s : List ℕ) where
   -- refused with this rule and place exactly where it is the first that s breaks
-  pub network_unread : (f : Refusal) → ((network_read (network_input s)).answer ≡ Refused f → FirstBroken s f) × (FirstBroken s f → (network_read (network_input s)).answer ≡ Refused f)
-  unfolding network_read
-  network_unread f = (λ e. go (network_input s) refl e, λ b. ap (λ (o : Reading Network). (network_read o).answer) ((network_refused s f).1 b))
+  pub network_unread : (f : Refusal) → (network_read (network_input s) ≡ Err f) ↔ FirstBroken s f
+  network_unread f = (λ e. go (network_input s) refl e, λ b. ap network_read ((network_refused s f).1 b))
     where
-      go : (o : Reading Network) → network_input s ≡ o → (network_read o).answer ≡ Refused f → FirstBroken s f
+      go : (o : Reading Network) → network_input s ≡ o → network_read o ≡ Err f → FirstBroken s f
       go (refused g) e k = let same : g ≡ f = cc in (network_refused s f).0 (e ∙ ap refused same)
       go (reached at stage n) e k = let z : ◌≡◌ {A = ℕ} 0 1 = cc in absurd (omega arith)
-
-  -- "A refusal hands out no .. partial network."
-  pub network_handed_out : (f : Refusal) → (network_read (network_input s) ≡ record { answer = Refused f; net = empty_network }) ↔ FirstBroken s f
-  unfolding network_read
-  network_handed_out f = (λ e. (network_unread f).0 (ap (λ (r : NetworkRead). r.answer) e), λ b. ap network_read ((network_refused s f).1 b))
 
   -- what s states is what is read, and it is well formed where s is bytes
   pub stated_read : (n : Network) → NetworkOf s n → (at : ℕ) × (stage : Stage) × (network_input s ≡ reached at stage n)
@@ -60,40 +52,27 @@ module _ (s : List ℕ) where
       network_well_formed s r.0 r.1 n bytes (network_input_size s r.0 r.1 n r.2).0
 
   -- read as n exactly where s is a network file that states n
-  pub network_read_lem : (n : Network) → (network_read (network_input s) ≡ record { answer = Accepted; net = n } → NetworkOf s n)
-      × (NetworkOf s n → network_read (network_input s) ≡ record { answer = Accepted; net = n })
-  unfolding network_read
-  network_read_lem n = (λ e. go (network_input s) refl e, back)
+  pub network_read_lem : (n : Network) → (network_read (network_input s) ≡ Ok n) ↔ NetworkOf s n
+  network_read_lem n = (λ e. go (network_input s) refl e, λ x. ap network_read (stated_read n x).2)
     where
-      go : (o : Reading Network) → network_input s ≡ o → network_read o ≡ record { answer = Accepted; net = n } → NetworkOf s n
-      go (refused g) e k =
-          let same : Refused g ≡ Accepted = ap (λ (r : NetworkRead). r.answer) k in
-          let z : ◌≡◌ {A = ℕ} 0 1 = cc in
-          absurd (omega arith)
+      go : (o : Reading Network) → network_input s ≡ o → network_read o ≡ Ok n → NetworkOf s n
+      go (refused g) e k = let z : ◌≡◌ {A = ℕ} 0 1 = cc in absurd (omega arith)
       go (reached at stage m) e k =
-          let same : m ≡ n = ap (λ (r : NetworkRead). r.net) k in
+          let same : m ≡ n = cc in
           record {
             keeps = reached_keeps s at stage m e;
             states = subst (States s) same (file_states s at stage m (network_input_size s at stage m e).0);
           }
 
-      back : NetworkOf s n → network_read (network_input s) ≡ record { answer = Accepted; net = n }
-      back x = ap network_read (stated_read n x).2
-
 -- ---- the judge's input
 
 module _ (s : List ℕ) where
-  pub both_unread : (f : Refusal) → ((both_read (both_input s)).answer ≡ Refused f → FirstBrokenBoth s f) × (FirstBrokenBoth s f → (both_read (both_input s)).answer ≡ Refused f)
-  unfolding both_read
-  both_unread f = (λ e. go (both_input s) refl e, λ b. ap (λ (o : Reading (Network × Plan)). (both_read o).answer) ((both_refused s f).1 b))
+  pub both_unread : (f : Refusal) → (both_read (both_input s) ≡ Err f) ↔ FirstBrokenBoth s f
+  both_unread f = (λ e. go (both_input s) refl e, λ b. ap both_read ((both_refused s f).1 b))
     where
-      go : (o : Reading (Network × Plan)) → both_input s ≡ o → (both_read o).answer ≡ Refused f → FirstBrokenBoth s f
+      go : (o : Reading (Network × Plan)) → both_input s ≡ o → both_read o ≡ Err f → FirstBrokenBoth s f
       go (refused g) e k = let same : g ≡ f = cc in (both_refused s f).0 (e ∙ ap refused same)
       go (reached at stage x) e k = let z : ◌≡◌ {A = ℕ} 0 1 = cc in absurd (omega arith)
-
-  pub both_handed_out : (f : Refusal) → (both_read (both_input s) ≡ record { answer = Refused f; net = empty_network; plan = empty_plan }) ↔ FirstBrokenBoth s f
-  unfolding both_read
-  both_handed_out f = (λ e. (both_unread f).0 (ap (λ (r : BothRead). r.answer) e), λ b. ap both_read ((both_refused s f).1 b))
 
   -- the plan file, in the network of the head's counts
   plan_is : {at : ℕ} {stage : Stage} {n : Network} {p : Plan} (size : BothSize s at stage n p) → plan_file s (word s 6) size.middle ≡ reached at stage p
@@ -123,23 +102,18 @@ module _ (s : List ℕ) where
         (subst (λ (h : ℕ). StatesPlan s h p) (stand_once s (word s 4) (word s 6) x.network (size_network size)) x.states_plan),
   )
 
-  pub both_read_lem : (n : Network) (p : Plan) → (both_read (both_input s) ≡ record { answer = Accepted; net = n; plan = p } → BothOf s n p)
-      × (BothOf s n p → both_read (both_input s) ≡ record { answer = Accepted; net = n; plan = p })
-  unfolding both_read
+  pub both_read_lem : (n : Network) (p : Plan) → (both_read (both_input s) ≡ Ok (both_of (n, p))) ↔ BothOf s n p
   both_read_lem n p = (λ e. go (both_input s) refl e, back)
     where
-      go : (o : Reading (Network × Plan)) → both_input s ≡ o → both_read o ≡ record { answer = Accepted; net = n; plan = p } → BothOf s n p
-      go (refused g) e k =
-          let same : Refused g ≡ Accepted = ap (λ (r : BothRead). r.answer) k in
-          let z : ◌≡◌ {A = ℕ} 0 1 = cc in
-          absurd (omega arith)
+      go : (o : Reading (Network × Plan)) → both_input s ≡ o → both_read o ≡ Ok (both_of (n, p)) → BothOf s n p
+      go (refused g) e k = let z : ◌≡◌ {A = ℕ} 0 1 = cc in absurd (omega arith)
       go (reached at stage x) e k =
-          subst (λ (m : Network). BothOf s m p) (ap (λ (r : BothRead). r.net) k)
-          (subst (BothOf s x.0) (ap (λ (r : BothRead). r.plan) k) (size_both (both_size s at stage x.0 x.1 e)))
+          let same : both_of x ≡ both_of (n, p) = cc in
+          subst (λ (m : Network). BothOf s m p) (ap (λ (r : Both). r.net) same)
+          (subst (BothOf s x.0) (ap (λ (r : Both). r.plan) same) (size_both (both_size s at stage x.0 x.1 e)))
 
-      back : BothOf s n p → both_read (both_input s) ≡ record { answer = Accepted; net = n; plan = p }
+      back : BothOf s n p → both_read (both_input s) ≡ Ok (both_of (n, p))
       back x =
           let k = both_kept s (record { middle = x.middle; network = x.network; plan = x.plan }) in
           let same = both_same (both_size s k.0 k.1 k.2.0 k.2.1 k.3) x in
-          ap both_read k.3
-          ∙ ap₂ (λ (m : Network) (q : Plan). record { answer = Accepted; net = m; plan = q }) same.0 same.1
+          ap both_read k.3 ∙ ap₂ (λ (m : Network) (q : Plan). Ok (both_of (m, q))) same.0 same.1

@@ -9,24 +9,20 @@ use native.Mathlib.Omega.{arith}
 use lib.Dec.{eqb, ltb, leb}
 use lib.ListN.{length, get_or}
 use borrow.Author.Tests.{ltb-true, ltb-false, leb-true, leb-false, eqb-true, eqb-false, not-false, eq-eqb}
+use Rattle.std.specs.Prelude.{Result, Ok, Err, Option, Some, None}
+use Rattle.file_records.specs.declared.Record.{Record}
 use Rattle.network.specs.declared.refusal.Refusal.{Refusal}
 use Rattle.network.specs.declared.refusal.Rule.{Rule}
 use Rattle.network.specs.declared.refusal.Rule.TheVariants.{RecordMissing, KindOutOfPlace, WrongLength, RecordCutOff, HeadOutOfRange, UnknownFlags, BadEnds, UnknownForm, UnsuitedCost, TooManySteps, UnknownLink, UnknownState, ByteAfterEnd, NotATree, TwoSources, FaultWithSource, Overloaded, TooManyOperable, BufferTooShort, BadGuard}
-use Rattle.network.specs.declared.refusal.Verdict.{Verdict}
-use Rattle.network.specs.declared.refusal.Verdict.TheVariants.{Kept, Broken}
 use Rattle.file_stages.specs.declared.Stage.{Stage}
 use Rattle.file_stages.specs.declared.Stage.TheVariants.{Head, Elements, Links, End, PlanHead, Steps, PlanEnd, Over}
-use Rattle.file_records.specs.declared.Found.{Found}
-use Rattle.file_records.specs.declared.Found.TheVariants.{Record, Refused}
-use Rattle.file_stages.specs.declared.Next.{Next}
-use Rattle.file_stages.specs.declared.Next.TheVariants.{Go, Refused as Next-as-Refused}
 use Rattle.file_stages.specs.Stages.{next_stage}
 use Rattle.network.specs.Refusals.{position, Sooner, Check, check, pick, first_broken}
 use Rattle.network.proofs.Order.{position_once}
 use Rattle.network.specs.Accepted.{suits}
-use Rattle.file_fields.specs.declared.Seen.{Seen}
+use Rattle.file_fields.specs.Views.{Seen}
 use Rattle.file_fields.specs.Fields.{word, length_of, either, only, element_kind, flags_at, link_kind, unknown_form, bad_guard, head_rules, flags_rules, guard_rules, plain_link_rules, link_rules, plan_head_rules, step_rules, field_rules}
-use Rattle.file_records.specs.Records.{length_field, kind_field, is_refused, named, frame_rules, frame_rules_by, record_rules, record_rules_by, due_at}
+use Rattle.file_records.specs.Records.{length_field, kind_field, is_refused, named, frame_rules, frame_rules_by, record_rules, record_rules_by, due_at, recorded}
 use Rattle.file_records.proofs.Due.{first_append, either_false, else_first, goes_one_way, due_kept, due_refused}
 use Rattle.file_refusals.specs.Breaking.{ComesNext, behind_head, behind_element, behind_wide_element, behind_link, behind_guarded_link, behind_end, behind_plan_head, behind_step, behind_plan_end, MayCome, KindLength, network_head, element, link, end, plan_head, step, wide_element_lem, guarded_link, IsLink, InRange, CostSuits, BreaksRule, Keeps, BreaksFirst}
 use Rattle.file_refusals.specs.Seeing.{SwitchSeen, SeesSwitches}
@@ -43,9 +39,9 @@ module _ (P : Rule → Type 0) where
     pub broken : P r
     pub sooner : (q : Rule) → Sooner q r → ¬ P q
 
-  abbrev Judged : ℕ → Verdict → Type 0
-  Judged hi Kept = KeptTo hi
-  Judged hi (Broken r) = First r
+  abbrev Judged : ℕ → Result Unit Rule → Type 0
+  Judged hi (Ok t) = KeptTo hi
+  Judged hi (Err r) = First r
 
   record Decides (lo hi : ℕ) (cs : List Check) : Type 0 where
     pub judged : KeptTo lo → Judged hi (first_broken cs)
@@ -72,9 +68,9 @@ module _ (P : Rule → Type 0) where
   decides_append lo mid hi a b first second =
       record { judged = λ kept. subst (Judged hi) (sym (first_append a b)) (go (first_broken a) (first.judged kept)) }
     where
-      go : (v : Verdict) → Judged mid v → Judged hi (else_first v (first_broken b))
-      go Kept h = second.judged h
-      go (Broken r) h = h
+      go : (v : Result Unit Rule) → Judged mid v → Judged hi (else_first v (first_broken b))
+      go (Ok t) h = second.judged h
+      go (Err r) h = h
 
   -- the rules of a kind: their tests where the record is of that kind, else none is broken
   decides_only : (lo hi : ℕ) (t : Bool) (cs : List Check) → (t ≡ true → Decides lo hi cs) → (t ≡ false → KeptTo lo → KeptTo hi)
@@ -85,7 +81,7 @@ module _ (P : Rule → Type 0) where
 -- ---- what the tests of rules 2, 3, 5, 7, 8, 9 and 20 say
 
 -- the table that is computed is the paper's
-pub comes_next : (stage : Stage) (kind : ℕ) (next : Stage) → next_stage stage kind ≡ Go next → ComesNext stage kind next
+pub comes_next : (stage : Stage) (kind : ℕ) (next : Stage) → next_stage stage kind ≡ Some next → ComesNext stage kind next
 comes_next Head kind next h = let g = goes_one_way Head kind next h in rw (g.0, g.1) behind_head
 comes_next Elements kind next h = let g = goes_one_way Elements kind next h in rw g.1 (either_way g.0)
   where
@@ -103,7 +99,7 @@ comes_next Steps kind next h = let g = goes_one_way Steps kind next h in rw (g.0
 comes_next PlanEnd kind next h = let g = goes_one_way PlanEnd kind next h in rw (g.0, g.1) behind_plan_end
 comes_next Over kind next h = absurd (goes_one_way Over kind next h).0
 
-pub in_table : {stage : Stage} {kind : ℕ} {next : Stage} → ComesNext stage kind next → next_stage stage kind ≡ Go next
+pub in_table : {stage : Stage} {kind : ℕ} {next : Stage} → ComesNext stage kind next → next_stage stage kind ≡ Some next
 unfolding next_stage
 in_table behind_head = refl
 in_table behind_element = refl
@@ -116,14 +112,14 @@ in_table behind_step = refl
 in_table behind_plan_end = refl
 
 comes_once : {stage : Stage} {kind : ℕ} {a b : Stage} → ComesNext stage kind a → ComesNext stage kind b → a ≡ b
-comes_once {stage} p q = ap (λ (n : Next). named n stage) (sym (in_table p) ∙ in_table q)
+comes_once {stage} p q = ap (λ (n : Option Stage). named n stage) (sym (in_table p) ∙ in_table q)
 
 pub may_come : (stage : Stage) (kind : ℕ) → is_refused (next_stage stage kind) ≡ false → MayCome stage kind
 may_come stage kind e = go (next_stage stage kind) refl e
   where
-    go : (n : Next) → next_stage stage kind ≡ n → is_refused n ≡ false → MayCome stage kind
-    go (Go next) h e = (next, comes_next stage kind next h)
-    go Next-as-Refused h e = let z : ◌≡◌ {A = ℕ} 0 1 = cc in absurd (omega arith)
+    go : (n : Option Stage) → next_stage stage kind ≡ n → is_refused n ≡ false → MayCome stage kind
+    go (Some next) h e = (next, comes_next stage kind next h)
+    go None h e = let z : ◌≡◌ {A = ℕ} 0 1 = cc in absurd (omega arith)
 
 pub may_not_come : (stage : Stage) (kind : ℕ) → is_refused (next_stage stage kind) ≡ true → ¬ MayCome stage kind
 may_not_come stage kind e (next, c) =
@@ -529,48 +525,48 @@ module _ (s : List ℕ) (E K at : ℕ) (stage : Stage) where
         decides_append P (position RecordMissing) (position HeadOutOfRange) (position ByteAfterEnd) (frame_rules s at stage)
         (field_rules s at (kind_field s at) seen) frame_decides fields_decide
 
-    abbrev Verdicts : Verdict → Type 0
-    Verdicts Kept = Keeps s E K at stage
-    Verdicts (Broken r) = BreaksFirst s E K at stage r
+    abbrev Verdicts : Result Unit Rule → Type 0
+    Verdicts (Ok t) = Keeps s E K at stage
+    Verdicts (Err r) = BreaksFirst s E K at stage r
 
     -- what the reader's tests find is what the record breaks
     rules_judged : Verdicts (first_broken (record_rules s seen at stage))
     unfolding position
     rules_judged = go (first_broken (record_rules s seen at stage)) (rules_decide.judged (λ r h p. omega (arith, h)))
       where
-        go : (v : Verdict) → Judged P (position ByteAfterEnd) v → Verdicts v
-        go Kept h = keeps_to h
-        go (Broken r) h = record { broken = h.broken; sooner = h.sooner }
+        go : (v : Result Unit Rule) → Judged P (position ByteAfterEnd) v → Verdicts v
+        go (Ok t) h = keeps_to h
+        go (Err r) h = record { broken = h.broken; sooner = h.sooner }
 
-    pub due_breaks : (f : Refusal) → due_at s seen at stage ≡ Refused f → BreaksFirst s E K at stage f.rule × (f.place ≡ at)
+    pub due_breaks : (f : Refusal) → due_at s seen at stage ≡ Err f → BreaksFirst s E K at stage f.rule × (f.place ≡ at)
     due_breaks f e =
         let d = due_refused s seen at stage e in
         (subst Verdicts d.0 rules_judged, d.1)
 
-    pub due_keeps : {kind long : ℕ} {next : Stage} → due_at s seen at stage ≡ Record kind long next → Keeps s E K at stage
+    pub due_keeps : {kind long : ℕ} {next : Stage} → due_at s seen at stage ≡ recorded kind long next → Keeps s E K at stage
     due_keeps e = subst Verdicts (due_kept s seen at stage e).kept rules_judged
 
-    -- and both ways: the contract of `record_due`, `Reader::due` and `Reader::next` in the paper's words
-    pub record_refused : (f : Refusal) → (due_at s seen at stage ≡ Refused f) ↔ (BreaksFirst s E K at stage f.rule × (f.place ≡ at))
+    -- and both ways: the contract of `due_at`, `Reader::due` and `Reader::next` in the paper's words
+    pub record_refused : (f : Refusal) → (due_at s seen at stage ≡ Err f) ↔ (BreaksFirst s E K at stage f.rule × (f.place ≡ at))
     record_refused f = (due_breaks f, λ b. go b (due_at s seen at stage) refl)
       where
-        go : BreaksFirst s E K at stage f.rule × (f.place ≡ at) → (d : Found) → due_at s seen at stage ≡ d → due_at s seen at stage ≡ Refused f
-        go b (Record kind long next) e = absurd (keeps_unbroken f.rule (due_keeps e) b.0)
-        go b (Refused g) e =
+        go : BreaksFirst s E K at stage f.rule × (f.place ≡ at) → (d : Result Record Refusal) → due_at s seen at stage ≡ d → due_at s seen at stage ≡ Err f
+        go b (Ok found) e = absurd (keeps_unbroken f.rule (due_keeps e) b.0)
+        go b (Err g) e =
             let d = due_breaks g e in
-            e ∙ (λ i. Refused (record { rule = breaks_once g.rule f.rule d.0 b.0 i; place = (d.1 ∙ sym b.1) i }))
+            e ∙ (λ i. Err (record { rule = breaks_once g.rule f.rule d.0 b.0 i; place = (d.1 ∙ sym b.1) i }))
 
     -- what is found: the fields of the record that is due, and the stage that follows
     pub record_found : (kind long : ℕ) (next : Stage)
-        → (due_at s seen at stage ≡ Record kind long next) ↔ (Keeps s E K at stage × (kind ≡ kind_field s at) × (long ≡ length_field s at) × ComesNext stage kind next)
+        → (due_at s seen at stage ≡ recorded kind long next) ↔ (Keeps s E K at stage × (kind ≡ kind_field s at) × (long ≡ length_field s at) × ComesNext stage kind next)
     record_found kind long next = (
       λ e. let k = due_kept s seen at stage e in (due_keeps e, k.framed.kind_is, k.framed.long_is, comes_next stage kind next k.framed.goes),
       λ x. go x (due_at s seen at stage) refl,
     )
       where
         go : Keeps s E K at stage × (kind ≡ kind_field s at) × (long ≡ length_field s at) × ComesNext stage kind next
-            → (d : Found) → due_at s seen at stage ≡ d → due_at s seen at stage ≡ Record kind long next
-        go (keeps, k, l, f) (Refused r) e = absurd (keeps_unbroken r.rule keeps (due_breaks r e).0)
-        go (keeps, k, l, f) (Record kind' long' next') e =
+            → (d : Result Record Refusal) → due_at s seen at stage ≡ d → due_at s seen at stage ≡ recorded kind long next
+        go (keeps, k, l, f) (Err r) e = absurd (keeps_unbroken r.rule keeps (due_breaks r e).0)
+        go (keeps, k, l, f) (Ok found) e =
             let d = due_kept s seen at stage e in
-            e ∙ (λ i. Record ((d.framed.kind_is ∙ sym k) i) ((d.framed.long_is ∙ sym l) i) (comes_once (subst (λ (x : ℕ). ComesNext stage x next') (d.framed.kind_is ∙ sym k) (comes_next stage kind' next' d.framed.goes)) f i))
+            e ∙ (λ i. recorded ((d.framed.kind_is ∙ sym k) i) ((d.framed.long_is ∙ sym l) i) (comes_once (subst (λ (x : ℕ). ComesNext stage x found.next) (d.framed.kind_is ∙ sym k) (comes_next stage found.kind found.next d.framed.goes)) f i))

@@ -15,11 +15,9 @@ use Rattle.network.specs.declared.Network.{Network}
 use Rattle.network.specs.Networks.{no_guard, empty_network}
 use Rattle.file_stages.specs.declared.Stage.{Stage}
 use Rattle.file_stages.specs.declared.Stage.TheVariants.{Head, Elements, Links}
-use Rattle.file_fields.specs.declared.Seen.{Seen}
+use Rattle.file_fields.specs.Views.{Seen, nothing_seen, network_seen}
 use Rattle.file_fields.specs.Fields.{word}
-use Rattle.file_fields.specs.Views.{nothing_seen, network_seen}
-use Rattle.file_records.specs.Records.{due_at}
-use Rattle.file_records.specs.declared.Found.TheVariants.{Record}
+use Rattle.file_records.specs.Records.{due_at, recorded}
 use Rattle.file_network.specs.Runs.{Reading, refused, reached, read_on, records, always}
 use Rattle.file_network.specs.NetworkFiles.{element_of, guard_of, link_of, with_element, with_link, network_file}
 use Rattle.file_network.proofs.Runs.{records_keep, run_same}
@@ -57,7 +55,7 @@ module _ {A B : Type 0} (s : List ℕ) (seen : A → Seen) (into : ℕ → A →
   run_beyond n at stage a end last b run i h =
       (records_keep s seen into (λ m at' stage' a'. (count a' + m ≡ count a + n) × (get_or (list a') i d ≡ get_or (list a) i d)) step n at stage a end last b (refl, refl) run).1
     where
-      step : (m at' : ℕ) (stage' : Stage) (a' : A) (kind long : ℕ) (next : Stage) → due_at s (seen a') at' stage' ≡ Record kind long next
+      step : (m at' : ℕ) (stage' : Stage) (a' : A) (kind long : ℕ) (next : Stage) → due_at s (seen a') at' stage' ≡ recorded kind long next
           → (count a' + suc m ≡ count a + n) × (get_or (list a') i d ≡ get_or (list a) i d)
           → (count (into at' a') + m ≡ count a + n) × (get_or (list (into at' a')) i d ≡ get_or (list a) i d)
       step m at' stage' a' kind long next due p =

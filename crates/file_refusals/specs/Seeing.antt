@@ -1,7 +1,7 @@
 -- Document 02, item 2: what the record reader is handed of the links before a record, which rule 20 asks for.
 -- Assumes nothing.
 use Rattle.std.specs.Prelude.{◌≡◌, List, ℕ, ◌<◌, get_or}
-use Rattle.file_fields.specs.declared.Seen.{Seen}
+use Rattle.file_fields.specs.Views.{Seen}
 use Rattle.file_refusals.specs.Breaking.{EarlierSwitch}
 
 -- what is seen has a link of this number, and it is not fixed

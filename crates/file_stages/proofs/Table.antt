@@ -12,9 +12,8 @@ use lib.ListN.{get_or}
 use borrow.Author.Tests.{ne_eqb}
 use Rattle.file_stages.specs.declared.Stage.{Stage}
 use Rattle.file_stages.specs.declared.Stage.TheVariants.{Head, Elements, Links, End, PlanHead, Steps, PlanEnd, Over}
-use Rattle.file_stages.specs.declared.Next.{Next}
-use Rattle.file_stages.specs.declared.Next.TheVariants.{Go, Refused}
-use Rattle.file_stages.specs.Stages.{named_by, stage_number, next_stage}
+use Rattle.std.specs.Prelude.{Option, Some, None}
+use Rattle.file_stages.specs.Stages.{stage_number, next_stage, pick}
 
 abbrev both : Bool → Bool → Bool
 both true b = b
@@ -51,37 +50,46 @@ row_small Steps = lit< tt
 row_small PlanEnd = lit< tt
 row_small Over = lit< tt
 
-code : Next → ℕ
-code Refused = 8
-code (Go s) = stage_number s
+code : Option Stage → ℕ
+code None = 8
+code (Some s) = stage_number s
 
-decoded : (n : Next) → named_by (code n) ≡ n
-unfolding code named_by
-decoded Refused = refl
-decoded (Go Head) = refl
-decoded (Go Elements) = refl
-decoded (Go Links) = refl
-decoded (Go End) = refl
-decoded (Go PlanHead) = refl
-decoded (Go Steps) = refl
-decoded (Go PlanEnd) = refl
-decoded (Go Over) = refl
+-- the stage of a number, none for 8
+decode : ℕ → Option Stage
+decode n =
+    pick (eqb n 0) (Some Head) (pick (eqb n 1) (Some Elements) (pick (eqb n 2) (Some Links) (pick (eqb n 3) (Some End)
+    (pick (eqb n 4) (Some PlanHead) (pick (eqb n 5) (Some Steps) (pick (eqb n 6) (Some PlanEnd) (pick (eqb n 7) (Some Over) None)))))))
 
-unfoldable pub table : List (List ℕ)
+decoded : (n : Option Stage) → decode (code n) ≡ n
+unfolding code decode
+decoded None = refl
+decoded (Some Head) = refl
+decoded (Some Elements) = refl
+decoded (Some Links) = refl
+decoded (Some End) = refl
+decoded (Some PlanHead) = refl
+decoded (Some Steps) = refl
+decoded (Some PlanEnd) = refl
+decoded (Some Over) = refl
+
+same_code : (a b : Option Stage) → code a ≡ code b → a ≡ b
+same_code a b e = sym (decoded a) ∙ ap decode e ∙ decoded b
+
+unfoldable pub table : List (List (Option Stage))
 table =
-    (8 ∷ 1 ∷ 8 ∷ 8 ∷ 8 ∷ 8 ∷ 8 ∷ 8 ∷ 8 ∷ []) ∷
-    (8 ∷ 8 ∷ 1 ∷ 8 ∷ 8 ∷ 8 ∷ 8 ∷ 1 ∷ 8 ∷ []) ∷
-    (8 ∷ 8 ∷ 8 ∷ 2 ∷ 8 ∷ 8 ∷ 8 ∷ 8 ∷ 2 ∷ []) ∷
-    (8 ∷ 8 ∷ 8 ∷ 8 ∷ 4 ∷ 8 ∷ 8 ∷ 8 ∷ 8 ∷ []) ∷
-    (8 ∷ 8 ∷ 8 ∷ 8 ∷ 8 ∷ 5 ∷ 8 ∷ 8 ∷ 8 ∷ []) ∷
-    (8 ∷ 8 ∷ 8 ∷ 8 ∷ 8 ∷ 8 ∷ 5 ∷ 8 ∷ 8 ∷ []) ∷
-    (8 ∷ 8 ∷ 8 ∷ 8 ∷ 7 ∷ 8 ∷ 8 ∷ 8 ∷ 8 ∷ []) ∷
-    (8 ∷ 8 ∷ 8 ∷ 8 ∷ 8 ∷ 8 ∷ 8 ∷ 8 ∷ 8 ∷ []) ∷ []
+    (None ∷ Some Elements ∷ None ∷ None ∷ None ∷ None ∷ None ∷ None ∷ None ∷ []) ∷
+    (None ∷ None ∷ Some Elements ∷ None ∷ None ∷ None ∷ None ∷ Some Elements ∷ None ∷ []) ∷
+    (None ∷ None ∷ None ∷ Some Links ∷ None ∷ None ∷ None ∷ None ∷ Some Links ∷ []) ∷
+    (None ∷ None ∷ None ∷ None ∷ Some PlanHead ∷ None ∷ None ∷ None ∷ None ∷ []) ∷
+    (None ∷ None ∷ None ∷ None ∷ None ∷ Some Steps ∷ None ∷ None ∷ None ∷ []) ∷
+    (None ∷ None ∷ None ∷ None ∷ None ∷ None ∷ Some Steps ∷ None ∷ None ∷ []) ∷
+    (None ∷ None ∷ None ∷ None ∷ Some Over ∷ None ∷ None ∷ None ∷ None ∷ []) ∷
+    (None ∷ None ∷ None ∷ None ∷ None ∷ None ∷ None ∷ None ∷ None ∷ []) ∷ []
 
-right : ℕ → Stage → ℕ → Bool
-right d s k = eqb (get_or (get_or table (stage_number s) []) k d) (code (next_stage s k))
+right : Option Stage → Stage → ℕ → Bool
+right d s k = eqb (code (get_or (get_or table (stage_number s) []) k d)) (code (next_stage s k))
 
-row : (d : ℕ) (s : Stage) → T (all (right d s) 9)
+row : (d : Option Stage) (s : Stage) → T (all (right d s) 9)
 unfolding right table code next_stage
 row d Head = tt
 row d Elements = tt
@@ -93,13 +101,13 @@ row d PlanEnd = tt
 row d Over = tt
 
 -- each entry of the table, whatever stands past its end
-pub entry : (d : ℕ) (s : Stage) (n k : ℕ) → n ≡ stage_number s → k < 9 → named_by (get_or (get_or table n []) k d) ≡ next_stage s k
+pub entry : (d : Option Stage) (s : Stage) (n k : ℕ) → n ≡ stage_number s → k < 9 → get_or (get_or table n []) k d ≡ next_stage s k
 unfolding right
 entry d s n k e h =
-    rw e (ap named_by (eqb→eq (get_or (get_or table (stage_number s) []) k d) (code (next_stage s k)) (at (right d s) 9 (row d s) k h)) ∙ decoded (next_stage s k))
+    rw e (same_code _ _ (eqb→eq (code (get_or (get_or table (stage_number s) []) k d)) (code (next_stage s k)) (at (right d s) 9 (row d s) k h)))
 
 -- a kind past the table
-pub past : (s : Stage) (k : ℕ) → 9 ≤ k → Refused ≡ next_stage s k
+pub past : (s : Stage) (k : ℕ) → 9 ≤ k → None ≡ next_stage s k
 unfolding next_stage
 past Head k h = simp (ne_eqb k 1 (omega arith))
 past Elements k h = simp (ne_eqb k 2 (omega arith), ne_eqb k 7 (omega arith))

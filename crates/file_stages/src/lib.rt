@@ -2,7 +2,7 @@
 #![tactic(auto)]
 
 ghost use Rattle.std.specs.Prelude.{◌≡◌};
-ghost use Rattle.file_stages.specs.Stages.{named_by, next_stage, after_last, stage_number};
+ghost use Rattle.file_stages.specs.Stages.{next_stage, after_last, stage_number};
 
 #[derive(Clone, Copy)]
 pub enum Stage {
@@ -16,29 +16,23 @@ pub enum Stage {
     Over,
 }
 
-#[derive(Clone, Copy)]
-pub enum Next {
-    Go(Stage),
-    Refused,
-}
-
 const KINDS: usize = 9;
 
-// The table's entries: the stages by their numbers, and 8 for refusal 2.
-const ELEMENTS: u8 = 1;
+// The table's entries: the stage that follows, or none for refusal 2.
+const NO: Option<Stage> = None;
 
-const LINKS: u8 = 2;
+const ELEMENTS: Option<Stage> = Some(Stage::Elements);
 
-const PLAN_HEAD: u8 = 4;
+const LINKS: Option<Stage> = Some(Stage::Links);
 
-const STEPS: u8 = 5;
+const PLAN_HEAD: Option<Stage> = Some(Stage::PlanHead);
 
-const OVER: u8 = 7;
+const STEPS: Option<Stage> = Some(Stage::Steps);
 
-const NO: u8 = 8;
+const OVER: Option<Stage> = Some(Stage::Over);
 
 // Rows: the stages in their order. Columns: kinds 0 to 8.
-const NEXT: [[u8; 9]; 8] = [
+const NEXT: [[Option<Stage>; 9]; 8] = [
     [NO, ELEMENTS, NO, NO, NO, NO, NO, NO, NO],
     [NO, NO, ELEMENTS, NO, NO, NO, NO, ELEMENTS, NO],
     [NO, NO, NO, LINKS, NO, NO, NO, NO, LINKS],
@@ -49,52 +43,27 @@ const NEXT: [[u8; 9]; 8] = [
     [NO, NO, NO, NO, NO, NO, NO, NO, NO],
 ];
 
+// The row of a stage in the table.
 fn row_of(stage: Stage) -> usize
     ensures { result ≡ stage_number stage }
 {
-    match stage {
-        Stage::Head => 0,
-        Stage::Elements => 1,
-        Stage::Links => 2,
-        Stage::End => 3,
-        Stage::PlanHead => 4,
-        Stage::Steps => 5,
-        Stage::PlanEnd => 6,
-        Stage::Over => 7,
-    }
-}
-
-// What an entry of the table names.
-fn named(entry: u8) -> Next
-    ensures { result ≡ named_by entry }
-{
-    match entry {
-        0 => Next::Go(Stage::Head),
-        1 => Next::Go(Stage::Elements),
-        2 => Next::Go(Stage::Links),
-        3 => Next::Go(Stage::End),
-        4 => Next::Go(Stage::PlanHead),
-        5 => Next::Go(Stage::Steps),
-        6 => Next::Go(Stage::PlanEnd),
-        7 => Next::Go(Stage::Over),
-        _ => Next::Refused,
-    }
+    stage as usize
 }
 
 // What the table says of a kind at a stage; a kind past the table is refused too.
-pub fn next_stage(stage: Stage, kind: u16) -> Next
+// Kinds are numbers, since `next_stage`, `ComesNext` and `length_of` in specs speak of document 01's numbers.
+pub fn next_stage(stage: Stage, kind: u16) -> Option<Stage>
     ensures { result ≡ next_stage stage kind }
 {
     let column = kind as usize;
     if KINDS <= column {
-        return Next::Refused;
+        return None;
     }
     let row = row_of(stage);
-    let entry = NEXT[row][column];
-    named(entry)
+    NEXT[row][column]
 }
 
-// The stage that follows once the last element, link or step is read.
+// The stage that follows once the last element, link or step is read. Each arm is written out: behind `_` the proof is not told which stage it is.
 pub fn after_last(stage: Stage) -> Stage
     ensures { result ≡ after_last stage }
 {

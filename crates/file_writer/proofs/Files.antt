@@ -14,7 +14,7 @@ use borrow.Author.Tests.{lt-ltb, le-ltb}
 use Rattle.network.specs.declared.refusal.Rule.TheVariants.{BufferTooShort}
 use Rattle.network.proofs.Stores.{stored_behind, sets_front}
 use Rattle.file_plan.specs.declared.plan.Plan.{Plan}
-use Rattle.file_writer.specs.declared.Written.TheVariants.{Bytes, Refused}
+use Rattle.std.specs.Prelude.{Ok, Err}
 use Rattle.file_writer.specs.Writing.{plan_head_bytes, step_bytes, steps_bytes, end_bytes, plan_bytes, plan_length, written, buffer_after}
 
 -- ---- records
@@ -87,10 +87,10 @@ pub too_short :
     (p : Plan) (l : List ℕ) (n : ℕ) →
     n ≡ plan_length p →
     length l < n →
-    (Refused (record { rule = BufferTooShort; place = n }) ≡ written p l) × (l ≡ buffer_after p l)
+    (Err (record { rule = BufferTooShort; place = n }) ≡ written p l) × (l ≡ buffer_after p l)
 unfolding written buffer_after
 too_short p l n e lt = let t : ltb (length l) (plan_length p) ≡ true = lt-ltb (length l) (plan_length p) (omega arith) in (rw (t, e), rw t)
 
-pub long_enough : (p : Plan) (l : List ℕ) (n : ℕ) → n ≡ plan_length p → n ≤ length l → Bytes n ≡ written p l
+pub long_enough : (p : Plan) (l : List ℕ) (n : ℕ) → n ≡ plan_length p → n ≤ length l → Ok n ≡ written p l
 unfolding written
 long_enough p l n e le = rw (le-ltb (length l) (plan_length p) (omega arith), e)

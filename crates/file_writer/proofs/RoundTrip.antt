@@ -13,13 +13,11 @@ use lib.Seq.{paste, paste-suc, get_or-take, length-take-le, take_at}
 use lib.Dec.{eqb}
 use borrow.Author.Tests.{le-ltb, lt-leb}
 use Rattle.file_stages.specs.declared.Stage.TheVariants.{PlanHead, Steps, PlanEnd, Over}
-use Rattle.file_records.specs.declared.Found.TheVariants.{Record}
 use Rattle.file_plan.specs.declared.plan.Plan.{Plan}
 use Rattle.file_stages.specs.Stages.{next_stage}
-use Rattle.file_fields.specs.declared.Seen.{Seen}
-use Rattle.file_fields.specs.Views.{links_seen}
+use Rattle.file_fields.specs.Views.{Seen, links_seen}
 use Rattle.file_fields.specs.Fields.{word, length_of, field_rules, plan_head_rules, step_rules}
-use Rattle.file_records.specs.Records.{due_at}
+use Rattle.file_records.specs.Records.{due_at, recorded}
 use Rattle.file_network.specs.Runs.{reached, records, always, as_is}
 use Rattle.file_plan.specs.PlanFiles.{empty_plan, with_step, steps_on, steps_on_by, plan_end_on, plan_end_on_by, plan_file, plan_file_by}
 use Rattle.file_plan.specs.Inputs.{plan_input, plan_input_by}
@@ -75,7 +73,7 @@ pub head_due :
     {s : List ℕ} {at : ℕ} (seen : Seen) (n : ℕ) →
     n ≤ 255 →
     Stands s at (plan_head_bytes n) →
-    due_at s seen at PlanHead ≡ Record 5 6 Steps
+    due_at s seen at PlanHead ≡ recorded 5 6 Steps
 unfolding next_stage length_of field_rules plan_head_rules
 head_due {s} {at} seen n few h =
     let w = head_words n h in
@@ -86,7 +84,7 @@ pub step_due :
     {s : List ℕ} {at : ℕ} (seen : Seen) (l : ℕ) (c : Bool) →
     l < seen.links →
     Stands s at (step_bytes l c) →
-    due_at s seen at Steps ≡ Record 6 8 Steps
+    due_at s seen at Steps ≡ recorded 6 8 Steps
 unfolding next_stage length_of field_rules step_rules
 step_due {s} {at} seen l c known h =
     let w = step_words l c h in
@@ -94,7 +92,7 @@ step_due {s} {at} seen l c known h =
     (rw (lt-leb seen.links (word s (at + 4)) (omega arith), le-ltb 1 (word s (at + 6)) (omega (arith, state_small c))))
 
 pub end_due :
-    {s : List ℕ} {at : ℕ} (seen : Seen) → Stands s at end_bytes → due_at s seen at PlanEnd ≡ Record 4 4 Over
+    {s : List ℕ} {at : ℕ} (seen : Seen) → Stands s at end_bytes → due_at s seen at PlanEnd ≡ recorded 4 4 Over
 unfolding next_stage length_of field_rules
 end_due {s} {at} seen h =
     let w = end_words h in

@@ -1,10 +1,9 @@
 -- Document 01, the plan file as bytes, and rule 19.
 -- Assumes nothing.
-use Rattle.std.specs.Prelude.{Bool, true, false, List, [], ◌∷◌, ◌++◌, ℕ, zero, suc, ◌+◌, ◌*◌, ◌/◌, ◌%◌, ltb, length, get_or, drop}
+use Rattle.std.specs.Prelude.{Bool, true, false, List, [], ◌∷◌, ◌++◌, ℕ, zero, suc, ◌+◌, ◌*◌, ◌/◌, ◌%◌, ltb, length, get_or, drop, Result, Ok, Err}
 use Rattle.network.specs.declared.refusal.Rule.TheVariants.{BufferTooShort}
+use Rattle.network.specs.declared.refusal.Refusal.{Refusal}
 use Rattle.file_plan.specs.declared.plan.Plan.{Plan}
-use Rattle.file_writer.specs.declared.Written.{Written}
-use Rattle.file_writer.specs.declared.Written.TheVariants.{Bytes, Refused}
 use Rattle.network.specs.Refusals.{pick}
 
 -- "Numbers are unsigned, two bytes, low byte first"
@@ -41,9 +40,9 @@ unfoldable pub plan_length : Plan → ℕ
 plan_length p = 10 + 8 * p.steps
 
 -- Rule 19: "The buffer lent for the plan file is shorter than that file (the length needed)"
-unfoldable pub written : Plan → List ℕ → Written
+unfoldable pub written : Plan → List ℕ → Result ℕ Refusal
 written p buffer =
-    pick (ltb (length buffer) (plan_length p)) (Refused (record { rule = BufferTooShort; place = plan_length p })) (Bytes (plan_length p))
+    pick (ltb (length buffer) (plan_length p)) (Err (record { rule = BufferTooShort; place = plan_length p })) (Ok (plan_length p))
 
 -- "If it fits, the file fills the buffer's front and later bytes keep their values."
 unfoldable pub buffer_after : Plan → List ℕ → List ℕ

@@ -8,12 +8,6 @@ ghost use Rattle.file_writer.specs.Writing.{number, plan_head_bytes, step_bytes,
 use file_plan::plan::Plan;
 use network::refusal::{Refusal, Rule};
 
-#[derive(Clone, Copy)]
-pub enum Written {
-    Bytes(usize),
-    Refused(Refusal),
-}
-
 // A number of two bytes, low byte first.
 fn put_word(buffer: &mut [u8], at: usize, value: u16)
     requires { at + 2 ≤ length buffer.old }
@@ -56,12 +50,10 @@ fn put_steps(buffer: &mut [u8], plan: Plan)
     ensures { buffer.new ≡ sets buffer.old 6 (steps_bytes plan plan.steps) }
 {
     let count = plan.steps as usize;
-    let mut i: usize = 0;
-    while i < count {
+    for i in 0..count {
         let link = plan.link[i];
         let close = plan.close[i];
         put_step(buffer, 6 + 8 * i, link, close);
-        i += 1;
     }
 }
 
@@ -73,14 +65,14 @@ fn plan_length(plan: Plan) -> usize
     10 + 8 * steps
 }
 
-// The plan's file into the front of `buffer`.
-pub fn write_plan(plan: Plan, buffer: &mut [u8]) -> Written
+// The plan's file into the front of `buffer`: its length.
+pub fn write_plan(plan: Plan, buffer: &mut [u8]) -> Result<usize, Refusal>
     ensures value { result ≡ written plan buffer.old }
     ensures buffer_after { buffer.new ≡ buffer_after plan buffer.old }
 {
     let needed = plan_length(plan);
     if buffer.len() < needed {
-        return Written::Refused(Refusal {
+        return Err(Refusal {
             rule: Rule::BufferTooShort,
             place: needed,
         });
@@ -89,5 +81,5 @@ pub fn write_plan(plan: Plan, buffer: &mut [u8]) -> Written
     put_head(buffer, steps);
     put_steps(buffer, plan);
     put_end(buffer, needed - 4);
-    Written::Bytes(needed)
+    Ok(needed)
 }

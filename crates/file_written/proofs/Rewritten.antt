@@ -5,18 +5,18 @@ use mathlib.Core.List.{List, ◌++◌, append_assoc}
 use Prim.Native.Nat.{ℕ, zero, suc, ◌+◌, ◌-◌, ◌<◌, ◌≤◌}
 use native.Mathlib.Omega.{arith}
 use lib.ListN.{length, length-append}
+use Rattle.std.specs.Prelude.{Result, Err, Ok}
+use Rattle.network.specs.declared.refusal.Refusal.{Refusal}
+use Rattle.file_records.specs.declared.Record.{Record}
 use Rattle.network.specs.declared.Element.{Element}
 use Rattle.network.specs.declared.Network.{Network}
 use Rattle.network.specs.Networks.{empty_network, element_added}
 use Rattle.file_stages.specs.declared.Stage.{Stage}
 use Rattle.file_stages.specs.declared.Stage.TheVariants.{Head, Elements}
 use Rattle.file_stages.specs.Stages.{after_last}
-use Rattle.file_fields.specs.declared.Seen.{Seen}
+use Rattle.file_fields.specs.Views.{Seen, nothing_seen}
 use Rattle.file_fields.specs.Fields.{word}
-use Rattle.file_fields.specs.Views.{nothing_seen}
-use Rattle.file_records.specs.declared.Found.{Found}
-use Rattle.file_records.specs.declared.Found.TheVariants.{Record, Refused}
-use Rattle.file_records.specs.Records.{due_at}
+use Rattle.file_records.specs.Records.{due_at, recorded}
 use Rattle.file_records.proofs.Due.{due_kept}
 use Rattle.file_records.proofs.SameBytes.{SameFrom, same_on, front_same, back_same}
 use Rattle.file_network.specs.Runs.{Reading, reached, read_on, records, always, as_is}
@@ -54,16 +54,16 @@ records_split {A} s seen into (suc n) (suc done) m at stage a at' stage' a' e ru
     go (due_at s (seen a) at stage) refl
     (λ at'' stage'' a'' run''. records_split s seen into n done m at'' stage'' a'' at' stage' a' (omega arith) run'')
   where
-    go : (f : Found) →
+    go : (f : Result Record Refusal) →
         due_at s (seen a) at stage ≡ f →
         ((at'' : ℕ) (stage'' : Stage) (a'' : A) →
         records s seen into done at'' stage'' a'' ≡ reached at' stage' a' →
         records s seen into n at'' stage'' a'' ≡ records s seen into m at' stage' a') →
         records s seen into (suc n) at stage a ≡ records s seen into m at' stage' a'
-    go (Record kind long next) d rest =
-        records_suc s seen into n at stage a kind long next d ∙
-        rest (at + long) next (into at a) (sym (records_suc s seen into done at stage a kind long next d) ∙ run)
-    go (Refused r) d rest =
+    go (Ok found) d rest =
+        records_suc s seen into n at stage a found.kind found.length found.next d ∙
+        rest (at + found.length) found.next (into at a) (sym (records_suc s seen into done at stage a found.kind found.length found.next d) ∙ run)
+    go (Err r) d rest =
         let none = records_refused s seen into (suc done) at stage a r (omega arith) d in
         let z : ◌≡◌ {A = ℕ} 0 1 = cc in
         absurd (omega arith)
@@ -106,7 +106,7 @@ due_rest s at d =
 -- and behind it where it is whole
 rest_next :
     (s : List ℕ) (m at kind long : ℕ) (n : Network) →
-    due_at s nothing_seen at Elements ≡ Record kind long Elements →
+    due_at s nothing_seen at Elements ≡ recorded kind long Elements →
     rest_on s (suc m) at Elements n ≡ rest_on s m (at + long) Elements (with_element s at n)
 unfolding rest_on
 rest_next s m at kind long n d =
@@ -137,7 +137,7 @@ module _ (was is : List ℕ) (old new : ℕ) (file : Moved ◌≡◌ old new (ne
 -- ---- one for another
 
 module _ (front r r' back : List ℕ) (e : Element) (due : ElementDue (front ++ r ++ back) (length front)) (kind : ℕ)
-    (found : due_at (front ++ r ++ back) nothing_seen (length front) Elements ≡ Record kind (length r) Elements)
+    (found : due_at (front ++ r ++ back) nothing_seen (length front) Elements ≡ recorded kind (length r) Elements)
     (states : element_of (front ++ r ++ back) (length front) ≡ e) (other : IsRecord nothing_seen Elements Elements r' × (element_of r' 0 ≡ e)) where
   abbrev was : List ℕ
   was = front ++ r ++ back

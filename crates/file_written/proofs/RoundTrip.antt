@@ -18,11 +18,9 @@ use Rattle.network.specs.Refusals.{pick}
 use Rattle.file_stages.specs.declared.Stage.{Stage}
 use Rattle.file_stages.specs.declared.Stage.TheVariants.{Head, Elements, Links, End, PlanHead}
 use Rattle.file_stages.specs.Stages.{next_stage, after_last}
-use Rattle.file_fields.specs.declared.Seen.{Seen}
-use Rattle.file_fields.specs.Views.{nothing_seen, network_seen}
+use Rattle.file_fields.specs.Views.{Seen, nothing_seen, network_seen}
 use Rattle.file_fields.specs.Fields.{word, length_of, field_rules, head_rules, flags_rules, plain_link_rules, guard_rules, link_rules, wide_word}
-use Rattle.file_records.specs.declared.Found.TheVariants.{Record}
-use Rattle.file_records.specs.Records.{due_at}
+use Rattle.file_records.specs.Records.{due_at, recorded}
 use Rattle.file_records.proofs.Reader.{due_found}
 use Rattle.file_records.proofs.Due.{Framed, due_kept}
 use Rattle.file_records.proofs.SameBytes.{SameFrom}
@@ -43,7 +41,7 @@ use Rattle.file_written.proofs.Each.{Each}
 
 -- the bytes r, whole, are one record due at a stage, by what was read before it
 abbrev pub IsRecord : (seen : Seen) (stage next : Stage) (r : List ℕ) → Type 0
-IsRecord seen stage next r = (kind : ℕ) × (due_at r seen 0 stage ≡ Record kind (length r) next)
+IsRecord seen stage next r = (kind : ℕ) × (due_at r seen 0 stage ≡ recorded kind (length r) next)
 
 module _ {s : List ℕ} {at : ℕ} (r : List ℕ) (there : Stands s at r) where
   pub stands_same : SameFrom r s 0 at (length r)
@@ -55,7 +53,7 @@ module _ {s : List ℕ} {at : ℕ} (r : List ℕ) (there : Stands s at r) where
       }
 
   -- they are that wherever they stand
-  pub record_due : (seen : Seen) (stage next : Stage) (h : IsRecord seen stage next r) → due_at s seen at stage ≡ Record h.0 (length r) next
+  pub record_due : (seen : Seen) (stage next : Stage) (h : IsRecord seen stage next r) → due_at s seen at stage ≡ recorded h.0 (length r) next
   record_due seen stage next h =
       let looks = framed_looks r 0 stage h.0 (length r) next (due_kept r seen 0 stage h.1).framed in
       due_alike r s 0 at (length r) stage stands_same (omega arith) seen ∙ ap (placed at) h.1

@@ -31,7 +31,6 @@ use Rattle.file_written.proofs.OfNetwork.{link_kept, network_written}
 
 -- the file of a network keeps rules 1 to 13 and 20 and states it
 pub network_file_lem : (n : Network) → WellFormed n → Tidy n → NetworkOf (network_file_of n) n
-unfolding network_read
 network_file_lem n w tidy = (network_read_lem (network_file_of n) n).0 (ap network_read (network_written n w tidy))
 
 abbrev Byte : ℕ → Type 0

@@ -11,8 +11,7 @@ use Rattle.file_stages.specs.declared.Stage.{Stage}
 use Rattle.file_stages.specs.declared.Stage.TheVariants.{Elements}
 use Rattle.file_fields.specs.Fields.{word, length_of}
 use Rattle.file_fields.specs.Views.{nothing_seen}
-use Rattle.file_records.specs.declared.Found.TheVariants.{Record}
-use Rattle.file_records.specs.Records.{kind_field, due_at}
+use Rattle.file_records.specs.Records.{kind_field, due_at, recorded}
 use Rattle.file_records.proofs.Due.{Whole, whole_found, as_kind, element_kept}
 use Rattle.file_network.specs.Runs.{Reading, reached}
 use Rattle.file_network.specs.NetworkFiles.{narrow_element, element_of, network_file}
@@ -72,7 +71,7 @@ module _ (front narrow back : List ℕ) (two : kind_field narrow 0 ≡ 2) (ten :
     stand : Standing was (length front)
     stand = standing was end last n file (length front) there
 
-    found : due_at was nothing_seen (length front) Elements ≡ Record 2 (length narrow) Elements
+    found : due_at was nothing_seen (length front) Elements ≡ recorded 2 (length narrow) Elements
     unfolding length_of
     found =
         let w = stand.whole in
@@ -102,7 +101,6 @@ module _ (t : List ℕ) where
   network_same :
       (s front narrow back : List ℕ) → s ≡ front ++ narrow ++ back → kind_field narrow 0 ≡ 2 → length narrow ≡ 10 → ElementStands s (length front)
       → t ≡ front ++ as_wide narrow ++ back → KeepsNetwork s → network_read (network_input t) ≡ network_read (network_input s)
-  unfolding network_read
   network_same s front narrow back was two ten there is =
       subst (λ (x : List ℕ). ElementStands x (length front) → KeepsNetwork x → network_read (network_input t) ≡ network_read (network_input x)) (sym was)
       (λ there keeps.
@@ -115,7 +113,6 @@ module _ (t : List ℕ) where
   both_same :
       (s front narrow back : List ℕ) → s ≡ front ++ narrow ++ back → kind_field narrow 0 ≡ 2 → length narrow ≡ 10 → ElementStands s (length front)
       → t ≡ front ++ as_wide narrow ++ back → KeepsBoth s → both_read (both_input t) ≡ both_read (both_input s)
-  unfolding both_read
   both_same s front narrow back was two ten there is =
       subst (λ (x : List ℕ). ElementStands x (length front) → KeepsBoth x → both_read (both_input t) ≡ both_read (both_input x)) (sym was)
       (λ there keeps.
@@ -135,13 +132,11 @@ widened_both s t w = both_same t s w.front w.narrow w.back w.was w.kind w.long w
 -- ---- one after the other: what is read still keeps rules 1 to 13 and 20
 
 widened_keeps : (s t : List ℕ) → Widened s t → KeepsNetwork s → KeepsNetwork t
-unfolding network_read
 widened_keeps s t w keeps =
     let k = network_kept s keeps in
     ((network_read_lem t k.2).0 (widened_network s t w keeps ∙ ap network_read k.3)).keeps
 
 widened_keeps_both : (s t : List ℕ) → Widened s t → KeepsBoth s → KeepsBoth t
-unfolding both_read
 widened_keeps_both s t w keeps =
     let k = both_kept s keeps in
     let x = (both_read_lem t k.2.0 k.2.1).0 (widened_both s t w keeps ∙ ap both_read k.3) in

@@ -11,8 +11,7 @@ use lib.Seq.{take_all, take-take, drop_at, ext_get_or, length-take-le, get_or-ta
 use borrow.Author.Tests.{eqb-true, eqb-false}
 use Rattle.file_stages.specs.declared.Stage.{Stage}
 use Rattle.file_stages.specs.declared.Stage.TheVariants.{Steps, PlanEnd}
-use Rattle.file_records.specs.declared.Found.TheVariants.{Record}
-use Rattle.file_records.specs.Records.{due_at}
+use Rattle.file_records.specs.Records.{recorded, due_at}
 use Rattle.file_fields.specs.Fields.{word}
 use Rattle.file_records.proofs.Due.{due_kept, kind_there, step_kept}
 use Rattle.file_fields.specs.Views.{links_seen}
@@ -44,10 +43,10 @@ steps_end s links n at p end last q run =
     omega (arith, r.1)
   where
     step : (m at' : ℕ) (stage' : Stage) (p' : Plan) (kind long : ℕ) (next : Stage) →
-        due_at s (links_seen links) at' stage' ≡ Record kind long next → (stage' ≡ Steps) × (at' + 8 * suc m ≡ at + 8 * n) →
+        due_at s (links_seen links) at' stage' ≡ recorded kind long next → (stage' ≡ Steps) × (at' + 8 * suc m ≡ at + 8 * n) →
         (next ≡ Steps) × (at' + long + 8 * m ≡ at + 8 * n)
     step m at' stage' p' kind long next d h =
-        let here : due_at s (links_seen links) at' Steps ≡ Record kind long next = rw h.0 at d in
+        let here : due_at s (links_seen links) at' Steps ≡ recorded kind long next = rw h.0 at d in
         let w = due_kept s (links_seen links) at' Steps here in
         (w.framed.next_at_lem, omega (arith, h.1, w.framed.enough, w.framed.most))
 

@@ -10,7 +10,7 @@ use Rattle.judge_marks.specs.declared.Score.{Score}
 use Rattle.judge_marks.specs.declared.Mark.{Mark}
 use Rattle.judge_marks.specs.declared.Mark.TheVariants as Mark·
 use Rattle.final_better.specs.declared.Better.{Better}
-use Rattle.final_better.specs.declared.Better.TheVariants.{First, Second}
+use Rattle.final_better.specs.declared.Better.TheVariants.{First, Second, Neither}
 use Rattle.final_better.specs.Better.{ValidAt, NotValid, BetterBy, first_alone, second_alone, first_no_dearer as no-dearer, second_cheaper as cheaper, neither, second_or_neither, against_first, better_of}
 
 pub second_cheaper : {m n : Mark} {v w : Score} → m ≡ Mark·.Valid v → n ≡ Mark·.Valid w → w.cost < v.cost → Second ≡ better_of m n
@@ -20,6 +20,30 @@ second_cheaper {m} {n} {v} {w} e e' lt = rw (e, e', lt-ltb w.cost v.cost lt)
 pub first_no_dearer : {m n : Mark} {v w : Score} → m ≡ Mark·.Valid v → n ≡ Mark·.Valid w → v.cost ≤ w.cost → First ≡ better_of m n
 unfolding better_of against_first
 first_no_dearer {m} {n} {v} {w} e e' le = rw (e, e', le-ltb w.cost v.cost le)
+
+pub first_only : {m n : Mark} {v : Score} → m ≡ Mark·.Valid v → ((w : Score) → n ≡ Mark·.Valid w → ⊥) → First ≡ better_of m n
+unfolding better_of against_first
+first_only {m} {n} {v} e h = rw e (go n h)
+  where
+    go : (n : Mark) → ((w : Score) → n ≡ Mark·.Valid w → ⊥) → First ≡ against_first v.cost n
+    go (Mark·.Broken b) h = refl
+    go (Mark·.Short e) h = refl
+    go (Mark·.Valid w) h = absurd (h w refl)
+    go (Mark·.Refused f) h = refl
+
+pub first_out : (m n : Mark) → ((v : Score) → m ≡ Mark·.Valid v → ⊥) → second_or_neither n ≡ better_of m n
+unfolding better_of
+first_out (Mark·.Broken b) n h = refl
+first_out (Mark·.Short e) n h = refl
+first_out (Mark·.Valid v) n h = absurd (h v refl)
+first_out (Mark·.Refused f) n h = refl
+
+pub both_out : (n : Mark) → ((w : Score) → n ≡ Mark·.Valid w → ⊥) → Neither ≡ second_or_neither n
+unfolding second_or_neither
+both_out (Mark·.Broken b) h = refl
+both_out (Mark·.Short e) h = refl
+both_out (Mark·.Valid w) h = absurd (h w refl)
+both_out (Mark·.Refused f) h = refl
 
 -- ---- a mark is VALID with one cost, or it is another
 

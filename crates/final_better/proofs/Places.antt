@@ -2,12 +2,12 @@
 -- Assumes nothing.
 use mathlib.Core.Path.{◌≡◌, refl, sym, ap, ◌∙◌}
 use mathlib.Core.Bool.{Bool, true, false}
-use mathlib.Core.List.{List, []}
+use mathlib.Core.List.{List}
 use Prim.Native.Nat.{ℕ, ◌+◌, ◌-◌, ◌≤◌, ◌<◌}
 use native.Mathlib.Omega.{arith}
 use lib.Dec.{ltb}
-use lib.ListN.{length, take, drop, length-drop, drop_of_length-le}
-use lib.Seq.{take_all, length-take-le, take-take, take-add, drop_at, drop-drop}
+use lib.ListN.{length, take, drop, length-drop}
+use lib.Seq.{length-take-le, take-take, take-add, drop_at, drop-drop}
 use borrow.Author.Tests.{lt-ltb, le-ltb, ltb-true, ltb-false}
 use Rattle.network.specs.Refusals.{pick}
 use Rattle.final_better.specs.declared.Better.{Better}
@@ -25,6 +25,14 @@ module _ (bytes : ℕ) where
   pub behind_head : 6 ≤ bytes → 6 ≡ first_step bytes
   unfolding first_step
   behind_head h = rw (le-ltb bytes 6 h)
+
+pub first_step_least : (bytes : ℕ) → (first_step bytes ≤ 6) × (first_step bytes ≤ bytes)
+unfolding first_step
+first_step_least bytes = go (ltb bytes 6) refl
+  where
+    go : (t : Bool) → ltb bytes 6 ≡ t → (pick t 0 6 ≤ 6) × (pick t 0 6 ≤ bytes)
+    go true e = (omega arith, omega arith)
+    go false e = (omega arith, omega (arith, ltb-false bytes 6 e))
 
 module _ (first second : ℕ) (b : Better) (offset length : ℕ) where
   pub place_first : b ≡ First → offset ≡ first_step first → length ≡ first - 10 → record { better = b; offset = offset; length = length } ≡ part_of first second b
@@ -45,28 +53,18 @@ module _ (start middle : ℕ) (p : Part) (offset : ℕ) where
   unfolding part_in
   moved from e h = rw (e, h)
 
-  pub moved_first : p.better ≡ First → offset ≡ start + p.offset → record { better = p.better; offset = offset; length = p.length } ≡ part_in start middle p
-  unfolding start_of
-  moved_first e = moved start (ap (start_of start middle) e)
-
   pub moved_second : p.better ≡ Second → offset ≡ middle + p.offset → record { better = p.better; offset = offset; length = p.length } ≡ part_in start middle p
   unfolding start_of
   moved_second e = moved middle (ap (start_of start middle) e)
 
-  pub moved_none : p.better ≡ Neither → offset ≡ start + p.offset → record { better = p.better; offset = offset; length = p.length } ≡ part_in start middle p
+  pub moved_other : (p.better ≡ Second → ⊥) → offset ≡ start + p.offset → record { better = p.better; offset = offset; length = p.length } ≡ part_in start middle p
   unfolding start_of
-  moved_none e = moved start (ap (start_of start middle) e)
-
--- ---- the bytes at a part, by the three ways through `part_bytes`
-
-module _ (s : List ℕ) (p : Part) where
-  pub no_bytes : length s < p.offset → [] ≡ take p.length (drop p.offset s)
-  no_bytes h = rw (drop_of_length-le s {i = p.offset} (omega arith)) (sym (take_all p.length [] (omega arith)))
-
-  pub bytes_to_the_end : length s - p.offset < p.length → take (length s - p.offset) (drop p.offset s) ≡ take p.length (drop p.offset s)
-  bytes_to_the_end h =
-      let long = length-drop p.offset s in
-      take_all (length s - p.offset) (drop p.offset s) (omega arith) ∙ sym (take_all p.length (drop p.offset s) (omega arith))
+  moved_other h = moved start (go p.better h)
+    where
+      go : (b : Better) → (b ≡ Second → ⊥) → start_of start middle b ≡ start
+      go First h = refl
+      go Second h = absurd (h refl)
+      go Neither h = refl
 
 -- ---- in its file
 
@@ -84,14 +82,6 @@ unfolding part_of file_of better_part
 part_bytes first second First = records_at first
 part_bytes first second Second = records_at second
 part_bytes first second Neither = refl
-
-first_step_least : (bytes : ℕ) → (first_step bytes ≤ 6) × (first_step bytes ≤ bytes)
-unfolding first_step
-first_step_least bytes = go (ltb bytes 6) refl
-  where
-    go : (t : Bool) → ltb bytes 6 ≡ t → (pick t 0 6 ≤ 6) × (pick t 0 6 ≤ bytes)
-    go true e = (omega arith, omega arith)
-    go false e = (omega arith, omega (arith, ltb-false bytes 6 e))
 
 -- the offset is at most 6
 pub part_offset : (first second : ℕ) (b : Better) → (part_of first second b).offset ≤ 6

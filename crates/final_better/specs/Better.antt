@@ -65,6 +65,12 @@ better_of (Mark·.Short e) second = second_or_neither second
 better_of (Mark·.Valid v) second = against_first v.cost second
 better_of (Mark·.Refused f) second = second_or_neither second
 
+-- as a number: the first file, the second, neither
+abbrev pub better_number : Better → ℕ
+better_number First = 0
+better_number Second = 1
+better_number Neither = 2
+
 -- ---- the part as bytes
 
 -- the step records of a plan file: its bytes but the 6 of the plan head and the 4 of the end

@@ -1,17 +1,30 @@
 // The better of two submitted plan files by their marks, and its step records: a part of the lent bytes, and where it stands.
 #![tactic(auto)]
 
-ghost use Rattle.std.specs.Prelude.{◌≡◌, [], ◌+◌, ◌-◌, ◌^◌, ◌<◌, take, drop};
-ghost use Rattle.final_better.specs.Better.{better_of, second_or_neither, step_records, better_part, first_step, part_of, part_in};
+ghost use Rattle.std.specs.Prelude.{◌≡◌, [], ◌+◌, ◌^◌, ◌<◌, take, drop};
+ghost use Rattle.final_better.specs.Better.{better_of, second_or_neither, step_records, better_part, first_step, part_of, part_in, better_number};
 
 use judge_marks::Mark;
 
 // Which of two files is the better one.
-#[derive(Clone, Copy)]
+#[derive(Clone, Copy, Debug, PartialEq, Eq)]
 pub enum Better {
     First,
     Second,
     Neither,
+}
+
+// The number that hosts get.
+impl From<Better> for u64 {
+    ghost from_gives = { λ better n. n ≡ better_number better };
+
+    fn from(better: Better) -> u64 {
+        match better {
+            Better::First => 0,
+            Better::Second => 1,
+            Better::Neither => 2,
+        }
+    }
 }
 
 // The better file, and where its step records stand; where neither is valid, the empty part at the first file's first step.
@@ -32,15 +45,11 @@ pub fn better_of(first: Mark, second: Mark) -> Better
                 if b.cost < a.cost {
                     return Better::Second;
                 }
-                return Better::First;
+                Better::First
             }
-            Mark::Broken(_) => return Better::First,
-            Mark::Short(_) => return Better::First,
-            Mark::Refused(_) => return Better::First,
+            _ => Better::First,
         },
-        Mark::Broken(_) => return second_or_neither(second),
-        Mark::Short(_) => return second_or_neither(second),
-        Mark::Refused(_) => return second_or_neither(second),
+        _ => second_or_neither(second),
     }
 }
 
@@ -49,22 +58,27 @@ fn second_or_neither(second: Mark) -> Better
     ensures { result ≡ second_or_neither second }
 {
     match second {
-        Mark::Valid(_) => return Better::Second,
-        Mark::Broken(_) => return Better::Neither,
-        Mark::Short(_) => return Better::Neither,
-        Mark::Refused(_) => return Better::Neither,
+        Mark::Valid(_) => Better::Second,
+        _ => Better::Neither,
     }
+}
+
+// Where the first step of a plan file of so many bytes stands; 0 where it has no room for a head.
+fn first_step(bytes: usize) -> usize
+    ensures { result ≡ first_step bytes }
+{
+    if bytes < 6 {
+        return 0;
+    }
+    6
 }
 
 // The empty part at a plan file's first step.
 fn no_records(file: &[u8]) -> &[u8]
     ensures { result.now ≡ [] }
 {
-    let n = file.len();
-    if n < 6 {
-        return &file[0..0];
-    }
-    &file[6..6]
+    let at = first_step(file.len());
+    &file[at..at]
 }
 
 // The step records of a plan file: what stands between its head and its end.
@@ -83,9 +97,9 @@ pub fn better_part<'a>(first: &'a [u8], second: &'a [u8], better: Better) -> &'a
     ensures { result.now ≡ better_part first.now second.now better }
 {
     match better {
-        Better::First => return step_records(first),
-        Better::Second => return step_records(second),
-        Better::Neither => return no_records(first),
+        Better::First => step_records(first),
+        Better::Second => step_records(second),
+        Better::Neither => no_records(first),
     }
 }
 
@@ -93,69 +107,32 @@ pub fn better_part<'a>(first: &'a [u8], second: &'a [u8], better: Better) -> &'a
 pub fn part_bytes(s: &[u8], part: Part) -> &[u8]
     ensures { result.now ≡ take part.length (drop part.offset s.now) }
 {
-    let n = s.len();
-    let offset = part.offset;
-    let length = part.length;
-    if n < offset {
-        return &s[0..0];
-    }
-    if n - offset < length {
-        return &s[offset..n];
-    }
-    &s[offset..offset + length]
+    let offset = part.offset.min(s.len());
+    let rest = &s[offset..];
+    let length = part.length.min(rest.len());
+    &rest[..length]
 }
 
-// Where the first step of a plan file of so many bytes stands.
-fn first_step(bytes: usize) -> usize
-    ensures { result ≡ first_step bytes }
-{
-    if bytes < 6 {
-        return 0;
-    }
-    6
-}
-
-// How many bytes its step records have.
-fn steps_length(bytes: usize) -> usize
-    ensures { result ≡ bytes - 10 }
-{
-    if bytes < 10 {
-        return 0;
-    }
-    bytes - 10
-}
-
-// The part of the better one of two files of so many bytes, by its offset in that file.
+// The part of the better one of two files of so many bytes, by its offset in that file: an arm for each answer, as no two give the same.
 pub fn part_of(first: usize, second: usize, better: Better) -> Part
     ensures { result ≡ part_of first second better }
 {
     match better {
-        Better::First => {
-            let offset = first_step(first);
-            let length = steps_length(first);
-            Part {
-                better,
-                offset,
-                length,
-            }
-        }
-        Better::Second => {
-            let offset = first_step(second);
-            let length = steps_length(second);
-            Part {
-                better,
-                offset,
-                length,
-            }
-        }
-        Better::Neither => {
-            let offset = first_step(first);
-            Part {
-                better,
-                offset,
-                length: 0,
-            }
-        }
+        Better::First => Part {
+            better,
+            offset: first_step(first),
+            length: first.saturating_sub(10),
+        },
+        Better::Second => Part {
+            better,
+            offset: first_step(second),
+            length: second.saturating_sub(10),
+        },
+        Better::Neither => Part {
+            better,
+            offset: first_step(first),
+            length: 0,
+        },
     }
 }
 
@@ -165,23 +142,14 @@ pub fn part_in(start: usize, middle: usize, part: Part) -> Part
     requires offset_bound_2 { middle + part.offset < 2 ^ 64 }
     ensures { result ≡ part_in start middle part }
 {
-    let better = part.better;
-    let length = part.length;
-    match better {
-        Better::First => Part {
-            better,
-            offset: start + part.offset,
-            length,
-        },
+    match part.better {
         Better::Second => Part {
-            better,
             offset: middle + part.offset,
-            length,
+            ..part
         },
-        Better::Neither => Part {
-            better,
+        _ => Part {
             offset: start + part.offset,
-            length,
+            ..part
         },
     }
 }

@@ -4,36 +4,22 @@
 
 ghost use Rattle.std.specs.Prelude.{◌≡◌, length, take};
 ghost use Rattle.texts.specs.Texts.{in_front, Counted};
-ghost use Rattle.final_judge.specs.Finals.{FinalDecided, FilesDecided, FinalReply, FilesReply, ReadFormed, refused_final, marked_final, decided_read, final_for, files_for, decided_lines};
+ghost use Rattle.feeding.specs.Acceptance.{answer_to};
+ghost use Rattle.final_judge.specs.Finals.{FinalDecided, FilesDecided, FinalReply, FilesReply, ReadFormed, marked_final, final_accepted, marks_of, final_for, files_for, decided_lines};
 
 use feeding_acceptance::accept;
-use feeding_start::Start;
 use file_final::{FinalRead, read_files, read_final};
-use final_better::{Better, Part, better_of, part_in, part_of};
+use final_better::{Part, better_of, part_in, part_of};
 use final_lines::final_lines;
-use judge_marks::{BothMarks, Mark};
+use judge_marks::BothMarks;
 use judge_score::both_marked;
-use network::refusal::{Answer, Refusal};
+use network::refusal::Refusal;
 
-// Accepted, with both marks in file order and the part of the better file; or a refusal.
+// Both marks in file order, and the part of the better file.
 #[derive(Clone, Copy)]
 pub struct Decided {
-    pub answer: Answer,
     pub marks: BothMarks,
     pub part: Part,
-}
-
-fn refused_final(refusal: Refusal) -> Decided
-    ensures { result ≡ refused_final refusal }
-{
-    let first = Mark::Refused(refusal);
-    let second = Mark::Refused(refusal);
-    let part = part_of(0, 0, Better::Neither);
-    Decided {
-        answer: Answer::Refused(refusal),
-        marks: BothMarks { first, second },
-        part,
-    }
 }
 
 // Both marks, and the part of the better file by its offset in that file.
@@ -47,62 +33,47 @@ fn marked_final(read: FinalRead, marks: BothMarks) -> Decided
     let first = read.middle - read.start;
     let second = read.end - read.middle;
     let part = part_of(first, second, better);
-    Decided {
-        answer: Answer::Accepted,
-        marks,
-        part,
-    }
+    Decided { marks, part }
 }
 
 // By what was read: rules 14 to 18, then both marks.
-fn decide(read: FinalRead) -> Decided
+fn decide(read: FinalRead) -> Result<Decided, Refusal>
     requires { ReadFormed read }
-    ensures { result ≡ decided_read read }
+    ensures { result ≡ final_accepted read (answer_to read.net) }
 {
-    let answer = read.answer;
-    match answer {
-        Answer::Refused(refusal) => refused_final(refusal),
-        Answer::Accepted => {
-            let admitted = accept(read.net);
-            let verdict = admitted.answer;
-            match verdict {
-                Answer::Refused(refused) => refused_final(refused),
-                Answer::Accepted => {
-                    let first = read.first;
-                    let second = read.second;
-                    let marks = both_marked(admitted.start, first, second);
-                    marked_final(read, marks)
-                }
-            }
-        }
-    }
+    let start = accept(read.net)?;
+    let first = read.first;
+    let second = read.second;
+    let marks = both_marked(start, first, second);
+    Ok(marked_final(read, marks))
 }
 
 // A network file with two plan files directly behind it; the part by its offset in the input.
-pub fn final_of(s: &[u8]) -> Decided
+pub fn final_of(s: &[u8]) -> Result<Decided, Refusal>
     ensures value { result ≡ final_for s.now }
     ensures final_decided { FinalDecided s.now result }
 {
-    let read = read_final(s);
-    let own = decide(read);
-    let answer = own.answer;
+    let read = read_final(s)?;
+    let own = decide(read)?;
     let marks = own.marks;
-    let found = own.part;
-    let part = part_in(read.start, read.middle, found);
-    Decided {
-        answer,
-        marks,
-        part,
-    }
+    let part = part_in(read.start, read.middle, own.part);
+    Ok(Decided { marks, part })
 }
 
 // A network file and two plan files lent apart; the part by its offset in its own file.
-pub fn final_of_files(network: &[u8], first: &[u8], second: &[u8]) -> Decided
+pub fn final_of_files(network: &[u8], first: &[u8], second: &[u8]) -> Result<Decided, Refusal>
     ensures value { result ≡ files_for network.now first.now second.now }
     ensures files_decided { FilesDecided network.now first.now second.now result }
 {
-    let read = read_files(network, first, second);
+    let read = read_files(network, first, second)?;
     decide(read)
+}
+
+fn marks_of(decided: Result<Decided, Refusal>) -> Result<BothMarks, Refusal>
+    ensures { result ≡ marks_of decided }
+{
+    let both = decided?;
+    Ok(both.marks)
 }
 
 // The lines in the front of `out`, and their length; later bytes keep their values.
@@ -113,9 +84,8 @@ pub fn final_text(s: &[u8], out: &mut [u8; 4096]) -> usize
     ensures final_reply { FinalReply s.now (take result out.new) }
 {
     let decided = final_of(s);
-    let answer = decided.answer;
-    let marks = decided.marks;
-    final_lines(answer, marks, out)
+    let marks = marks_of(decided);
+    final_lines(marks, out)
 }
 
 // The same of files lent apart.
@@ -126,7 +96,6 @@ pub fn files_text(network: &[u8], first: &[u8], second: &[u8], out: &mut [u8; 40
     ensures files_reply { FilesReply network.now first.now second.now (take result out.new) }
 {
     let decided = final_of_files(network, first, second);
-    let answer = decided.answer;
-    let marks = decided.marks;
-    final_lines(answer, marks, out)
+    let marks = marks_of(decided);
+    final_lines(marks, out)
 }

@@ -8,7 +8,7 @@ ghost use Rattle.final_lines.specs.FinalLines.{mark_lines, final_lines};
 
 use judge_line::put_mark;
 use judge_marks::BothMarks;
-use network::refusal::Answer;
+use network::refusal::Refusal;
 use texts::refused_line;
 
 // The lines of both marks at an offset, and the place behind them.
@@ -25,13 +25,13 @@ pub fn put_marks(out: &mut [u8], at: usize, marks: BothMarks) -> usize
 }
 
 // The lines in the front of `out`, and their length; later bytes keep their values.
-pub fn final_lines(answer: Answer, marks: BothMarks, out: &mut [u8; 4096]) -> usize
-    ensures value { result ≡ length (final_lines answer marks) }
-    ensures out_after { out.new ≡ in_front (final_lines answer marks) out.old }
+pub fn final_lines(marks: Result<BothMarks, Refusal>, out: &mut [u8; 4096]) -> usize
+    ensures value { result ≡ length (final_lines marks) }
+    ensures out_after { out.new ≡ in_front (final_lines marks) out.old }
     ensures counted { Counted result out.new }
 {
-    match answer {
-        Answer::Refused(refusal) => refused_line(refusal, out),
-        Answer::Accepted => put_marks(out, 0, marks),
+    match marks {
+        Err(refusal) => refused_line(refusal, out),
+        Ok(marks) => put_marks(out, 0, marks),
     }
 }

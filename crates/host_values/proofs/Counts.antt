@@ -5,16 +5,17 @@ use mathlib.Core.Path.{◌≡◌, refl}
 use mathlib.Core.List.{List, [], ◌∷◌}
 use Prim.Native.Nat.{ℕ}
 use lib.ListN.{length, get_or}
-use Rattle.network.specs.declared.refusal.Answer.{Answer}
-use Rattle.network.specs.declared.refusal.Answer.TheVariants as Answer·
+use Rattle.std.specs.Prelude.{Result, Ok, Err}
+use Rattle.network.specs.declared.refusal.Refusal.{Refusal}
 use Rattle.plan_outcome.specs.declared.Reply.{Reply}
 use Rattle.plan_outcome.specs.declared.Reply.TheVariants as Reply·
 use Rattle.judge_marks.specs.declared.Mark.{Mark}
 use Rattle.judge_marks.specs.declared.Mark.TheVariants.{Broken, Short, Valid, Refused}
 use Rattle.judge_marks.specs.declared.BothMarks.{BothMarks}
 use Rattle.final_better.specs.declared.Part.{Part}
+use Rattle.final_better.specs.Better.{better_number}
 use Rattle.final_judge.specs.declared.Decided.{Decided}
-use Rattle.host_values.specs.Values.{reply_values, mark_kind, mark_values, better_number, marked_values, answer_values, final_values}
+use Rattle.host_values.specs.Values.{reply_values, mark_kind, mark_values, marked_values, final_values}
 
 pub reply_count : (r : Reply) → length (reply_values r) ≡ 5
 unfolding reply_values
@@ -48,11 +49,7 @@ marked_count : (m : BothMarks) (p : Part) → length (marked_values m p) ≡ 9
 unfolding marked_values
 marked_count m p = rw (mark_two m.first, mark_two m.second) refl
 
-answer_count : (d : Decided) (a : Answer) → length (answer_values d a) ≡ 9
-unfolding answer_values
-answer_count d (Answer·.Refused f) = refl
-answer_count d Answer·.Accepted = marked_count d.marks d.part
-
-pub final_count : (d : Decided) → length (final_values d) ≡ 9
+pub final_count : (d : Result Decided Refusal) → length (final_values d) ≡ 9
 unfolding final_values
-final_count d = answer_count d d.answer
+final_count (Err f) = refl
+final_count (Ok d) = marked_count d.marks d.part

@@ -1,40 +1,29 @@
--- Values stored one by one from the front, until they or the room end, are the values in what was lent. By the laws of stores.
+-- A copy over the front, of as many values as there are and as there is room for, leaves the values in what was lent. By the laws of lists.
 -- Assumes nothing.
-use mathlib.Core.Path.{◌≡◌, sym, ap, ap₂, ◌∙◌}
+use mathlib.Core.Path.{◌≡◌, refl, sym, ap, ap₂, ◌∙◌}
+use mathlib.Core.Bool.{Bool, true, false}
 use mathlib.Core.List.{List, ◌++◌}
-use Prim.Native.Nat.{ℕ, ◌+◌, ◌<◌, ◌≤◌}
-use native.Mathlib.Nat.{zero-add}
+use Prim.Native.Nat.{ℕ, min}
 use native.Mathlib.Omega.{arith}
-use lib.ListN.{length, get_or, take, drop, set, drop_of_length-le}
-use lib.Seq.{sets, length-take-le, take_all}
-use Rattle.network.proofs.Stores.{sets_front}
-use Rattle.texts.proofs.Pieces.{text_more}
+use lib.Dec.{ltb}
+use lib.ListN.{length, take, drop, drop_of_length-le}
+use lib.Seq.{take_all}
+use borrow.Author.Tests.{ltb-true, ltb-false}
 use Rattle.host_values.specs.Values.{values_in}
 
--- one turn of the loop
-pub value_more :
-    (l l' : List ℕ) (i : ℕ) (vs : List ℕ) →
-    l' ≡ sets l 0 (take i vs) →
-    i < length vs →
-    set l' i (get_or vs i 0) ≡ sets l 0 (take (i + 1) vs)
-value_more l l' i vs e h = ap (λ (k : ℕ). set l' k (get_or vs i 0)) (sym (zero-add i)) ∙ text_more l l' 0 i vs e h
-
-put_front : (l l' : List ℕ) (i : ℕ) (vs : List ℕ) → i ≤ length vs → i ≤ length l → l' ≡ sets l 0 (take i vs) → l' ≡ take i vs ++ drop i l
-put_front l l' i vs h k e =
-    let long = length-take-le i vs h in
-    e ∙ sets_front (take i vs) l (omega (arith, long)) ∙ ap (λ (n : ℕ). take i vs ++ drop n l) long
-
-module _ (l l' : List ℕ) (i : ℕ) (vs : List ℕ) (put : l' ≡ sets l 0 (take i vs)) where
-  -- no value is left
-  pub values_end : i ≡ length vs → i ≤ length l → l' ≡ values_in vs l
+module _ (l vs part : List ℕ) (room : ℕ) (room-is : room ≡ min (length vs) (length l)) (part-is : part ≡ take room vs) where
+  pub values_over : part ++ drop room l ≡ values_in vs l
   unfolding values_in
-  values_end e h =
-      let whole = take_all i vs (omega (arith, e)) ∙ sym (take_all (length l) vs (omega (arith, e))) in
-      put_front l l' i vs (omega (arith, e)) h put ∙ ap₂ (λ (t : List ℕ) (n : ℕ). t ++ drop n l) whole e
-
-  -- no room is left
-  pub room_ends : i ≡ length l → i ≤ length vs → l' ≡ values_in vs l
-  unfolding values_in
-  room_ends e h =
-      let nothing = drop_of_length-le l {i = i} (omega (arith, e)) ∙ sym (drop_of_length-le l {i = length vs} (omega (arith, e))) in
-      put_front l l' i vs h (omega (arith, e)) put ∙ ap₂ (λ (n : ℕ) (t : List ℕ). take n vs ++ t) e nothing
+  values_over = ap (λ (t : List ℕ). t ++ drop room l) part-is ∙ go (ltb (length l) (length vs)) refl
+    where
+      go : (t : Bool) → ltb (length l) (length vs) ≡ t → take room vs ++ drop room l ≡ take (length l) vs ++ drop (length vs) l
+      go true t =
+          let less = ltb-true (length l) (length vs) t in
+          let e : room ≡ length l = omega (arith, room-is) in
+          ap₂ (λ (t : List ℕ) (r : List ℕ). t ++ r) (ap (λ (n : ℕ). take n vs) e)
+          (drop_of_length-le l {i = room} (omega (arith, e)) ∙ sym (drop_of_length-le l {i = length vs} (omega (arith, less))))
+      go false t =
+          let most = ltb-false (length l) (length vs) t in
+          let e : room ≡ length vs = omega (arith, room-is, most) in
+          ap₂ (λ (t : List ℕ) (r : List ℕ). t ++ r) (take_all room vs (omega (arith, e)) ∙ sym (take_all (length l) vs (omega (arith, most))))
+          (ap (λ (n : ℕ). drop n l) e)

@@ -1,8 +1,7 @@
 -- The planner's reply, the judge's mark and the marks of a final as numbers, for programs in other languages, and such numbers in what a host lends.
 -- Assumes nothing.
-use Rattle.std.specs.Prelude.{List, [], ◌∷◌, ◌++◌, ℕ, length, take, drop}
-use Rattle.network.specs.declared.refusal.Answer.{Answer}
-use Rattle.network.specs.declared.refusal.Answer.TheVariants as Answer·
+use Rattle.std.specs.Prelude.{List, [], ◌∷◌, ◌++◌, ℕ, length, take, drop, Result, Ok, Err}
+use Rattle.network.specs.declared.refusal.Refusal.{Refusal}
 use Rattle.network.specs.Refusals.{rule_number}
 use Rattle.plan_outcome.specs.declared.Reply.{Reply}
 use Rattle.plan_outcome.specs.declared.Reply.TheVariants as Reply·
@@ -10,9 +9,8 @@ use Rattle.judge_marks.specs.declared.Mark.{Mark}
 use Rattle.judge_marks.specs.declared.Mark.TheVariants.{Broken, Short, Valid, Refused}
 use Rattle.judge_marks.specs.declared.BothMarks.{BothMarks}
 use Rattle.judge_marks.specs.Marks.{reason_number}
-use Rattle.final_better.specs.declared.Better.{Better}
-use Rattle.final_better.specs.declared.Better.TheVariants.{First, Second, Neither}
 use Rattle.final_better.specs.declared.Part.{Part}
+use Rattle.final_better.specs.Better.{better_number}
 use Rattle.final_judge.specs.declared.Decided.{Decided}
 
 -- refused, plan, none
@@ -41,29 +39,20 @@ mark_values (Broken b) = b.step ∷ reason_number b.reason ∷ []
 mark_values (Short e) = e ∷ 0 ∷ []
 mark_values (Valid v) = v.cost ∷ v.excess ∷ []
 
--- the first file, the second, neither
-unfoldable pub better_number : Better → ℕ
-better_number First = 0
-better_number Second = 1
-better_number Neither = 2
-
 -- both marks in file order, each as its kind and its two numbers; the better file, and offset and length of its step records
 unfoldable pub marked_values : BothMarks → Part → List ℕ
 marked_values m p =
     (mark_kind m.first ∷ mark_values m.first) ++ (mark_kind m.second ∷ mark_values m.second) ++ (better_number p.better ∷ p.offset ∷ p.length ∷ [])
 
 -- a final: refused, or marked
-unfoldable pub final_kind : Answer → ℕ
-final_kind (Answer·.Refused f) = 0
-final_kind Answer·.Accepted = 1
-
-unfoldable pub answer_values : Decided → Answer → List ℕ
-answer_values d (Answer·.Refused f) = rule_number f.rule ∷ f.place ∷ 0 ∷ 0 ∷ 0 ∷ 0 ∷ 0 ∷ 0 ∷ 0 ∷ []
-answer_values d Answer·.Accepted = marked_values d.marks d.part
+unfoldable pub final_kind : Result Decided Refusal → ℕ
+final_kind (Err f) = 0
+final_kind (Ok d) = 1
 
 -- refused: number and place; else the marks and the part
-unfoldable pub final_values : Decided → List ℕ
-final_values d = answer_values d d.answer
+unfoldable pub final_values : Result Decided Refusal → List ℕ
+final_values (Err f) = rule_number f.rule ∷ f.place ∷ 0 ∷ 0 ∷ 0 ∷ 0 ∷ 0 ∷ 0 ∷ 0 ∷ []
+final_values (Ok d) = marked_values d.marks d.part
 
 -- values in front of what a host lends, as many as there is room for; later entries keep their values
 unfoldable pub values_in : List ℕ → List ℕ → List ℕ

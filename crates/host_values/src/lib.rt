@@ -1,14 +1,13 @@
-// The planner's reply, the judge's mark and the marks of a final as numbers, for programs in other languages.
+// The planner's reply, the judge's mark and the marks of a final as the numbers of the C interface, for programs in other languages.
 #![tactic(auto)]
 
 ghost use Rattle.std.specs.Prelude.{◌≡◌, length};
-ghost use Rattle.host_values.specs.Values.{reply_kind, reply_values, mark_kind, mark_values, better_number, marked_values, final_kind, final_values, values_in};
+ghost use Rattle.host_values.specs.Values.{reply_kind, reply_values, mark_kind, mark_values, marked_values, final_kind, final_values, values_in};
 
-use final_better::{Better, Part};
+use final_better::Part;
 use final_judge::Decided;
-use judge_line::reason_number;
 use judge_marks::{BothMarks, Mark};
-use network::refusal::{Answer, number};
+use network::refusal::Refusal;
 use plan_outcome::Reply;
 
 pub fn reply_kind(reply: Reply) -> u64
@@ -26,8 +25,7 @@ pub fn reply_values(reply: Reply) -> [u64; 5]
 {
     match reply {
         Reply::Refused(refusal) => {
-            let rule = refusal.rule;
-            [number(rule) as u64, refusal.place as u64, 0, 0, 0]
+            [u8::from(refusal.rule) as u64, refusal.place as u64, 0, 0, 0]
         }
         Reply::Plan(planned) => [
             planned.steps as u64,
@@ -55,26 +53,10 @@ pub fn mark_values(mark: Mark) -> [u64; 2]
     ensures { result ≡ mark_values mark }
 {
     match mark {
-        Mark::Refused(refusal) => {
-            let rule = refusal.rule;
-            [number(rule) as u64, refusal.place as u64]
-        }
-        Mark::Broken(bad) => {
-            let reason = bad.reason;
-            [bad.step as u64, reason_number(reason) as u64]
-        }
+        Mark::Refused(refusal) => { [u8::from(refusal.rule) as u64, refusal.place as u64] }
+        Mark::Broken(bad) => [bad.step as u64, u8::from(bad.reason) as u64],
         Mark::Short(element) => [element as u64, 0],
         Mark::Valid(score) => [score.cost, score.excess],
-    }
-}
-
-pub fn better_number(better: Better) -> u64
-    ensures { result ≡ better_number better }
-{
-    match better {
-        Better::First => 0,
-        Better::Second => 1,
-        Better::Neither => 2,
     }
 }
 
@@ -84,7 +66,6 @@ fn marked_values(marks: BothMarks, part: Part) -> [u64; 9]
 {
     let first = marks.first;
     let second = marks.second;
-    let better = part.better;
     let one = mark_values(first);
     let other = mark_values(second);
     [
@@ -94,31 +75,28 @@ fn marked_values(marks: BothMarks, part: Part) -> [u64; 9]
         mark_kind(second),
         other[0],
         other[1],
-        better_number(better),
+        u64::from(part.better),
         part.offset as u64,
         part.length as u64,
     ]
 }
 
-pub fn final_kind(decided: Decided) -> u64
-    ensures { result ≡ final_kind decided.answer }
+pub fn final_kind(decided: Result<Decided, Refusal>) -> u64
+    ensures { result ≡ final_kind decided }
 {
-    let answer = decided.answer;
-    match answer {
-        Answer::Refused(_) => 0,
-        Answer::Accepted => 1,
+    match decided {
+        Err(_) => 0,
+        Ok(_) => 1,
     }
 }
 
-pub fn final_values(decided: Decided) -> [u64; 9]
+pub fn final_values(decided: Result<Decided, Refusal>) -> [u64; 9]
     ensures { result ≡ final_values decided }
 {
-    let answer = decided.answer;
-    match answer {
-        Answer::Refused(refusal) => {
-            let rule = refusal.rule;
+    match decided {
+        Err(refusal) => {
             [
-                number(rule) as u64,
+                u8::from(refusal.rule) as u64,
                 refusal.place as u64,
                 0,
                 0,
@@ -129,7 +107,7 @@ pub fn final_values(decided: Decided) -> [u64; 9]
                 0,
             ]
         }
-        Answer::Accepted => marked_values(decided.marks, decided.part),
+        Ok(both) => marked_values(both.marks, both.part),
     }
 }
 
@@ -138,10 +116,7 @@ pub fn put_what_fits(values: &[u64], lent: &mut [u64]) -> usize
     ensures value { result ≡ length values.now }
     ensures lent_after { lent.new ≡ values_in values.now lent.old }
 {
-    let mut i: usize = 0;
-    while i < values.len() && i < lent.len() {
-        lent[i] = values[i];
-        i += 1;
-    }
+    let room = values.len().min(lent.len());
+    lent[..room].copy_from_slice(&values[..room]);
     values.len()
 }

@@ -8,14 +8,13 @@ use native.Mathlib.Omega.{arith}
 use lib.ListN.{take}
 use Rattle.network.specs.declared.Network.{Network}
 use Rattle.network.specs.declared.refusal.Refusal.{Refusal}
-use Rattle.network.specs.declared.refusal.Answer.{Answer}
-use Rattle.network.specs.declared.refusal.Answer.TheVariants.{Accepted, Refused}
+use Rattle.std.specs.Prelude.{Result, Ok, Err}
 use Rattle.network.specs.Accepted.{WellFormed}
 use Rattle.file_network.specs.Runs.{Reading}
 use Rattle.file_network.specs.Deciding.{decides}
 use Rattle.file_plan.specs.declared.plan.Plan.{Plan}
-use Rattle.file_both.specs.declared.BothRead.{BothRead}
-use Rattle.file_both.specs.Inputs.{both_input, both_read}
+use Rattle.file_both.specs.declared.Both.{Both}
+use Rattle.file_both.specs.Inputs.{both_of, both_input, both_read}
 use Rattle.file_both.proofs.Alike.{both_decided}
 use Rattle.file_refusals.specs.Stated.{BothOf}
 use Rattle.file_refusals.proofs.Reading.{both_unread, both_read_lem}
@@ -34,7 +33,7 @@ use Rattle.judge_marks.proofs.Marking.{mark_marked, marked_mark}
 use Rattle.judge_marks.proofs.Marking as Marking
 use Rattle.judge_marks.specs.Marks as Marks·
 use Rattle.judge_line.specs.MarkLines.{mark_line}
-use Rattle.judge.specs.Judging.{AcceptedPlan, FirstRuleBoth, in_bytes, in_network, JudgeReply, mark_accepted, mark_read, mark_of_read, mark_for, mark_for_by}
+use Rattle.judge.specs.Judging.{AcceptedPlan, FirstRuleBoth, in_bytes, in_network, JudgeReply, mark_accepted, mark_of_read, mark_for, mark_for_by}
 use Rattle.judge.specs.Judging as Judging
 use Rattle.judge.proofs.Read.{BothFormed, both_formed}
 
@@ -45,22 +44,22 @@ data Judged (s : List ℕ) : Mark → Type 0 where
 
 module _ (s : List ℕ) (bytes : Bytes s) where
   -- files that state a network and a plan state well-formed ones
-  pub files_formed : (n : Network) (p : Plan) → BothOf s n p → BothFormed (record { answer = Accepted; net = n; plan = p })
-  files_formed n p files = both_formed s bytes _ (sym ((both_read_lem s n p).1 files)) refl
+  pub files_formed : (n : Network) (p : Plan) → BothOf s n p → BothFormed (both_of (n, p))
+  files_formed n p files = both_formed s bytes (both_of (n, p)) ((both_read_lem s n p).1 files)
 
   module _ (n : Network) (q : List Step) (a : AcceptedPlan s n q) where
     pub plan_network : WellFormed n
     plan_network = (files_formed n a.plan a.files).net
 
     pub plan_starts : Starts (net_of n)
-    plan_starts = accepted_starts n plan_network (sym (answered_network n plan_network Accepted a.kept))
+    plan_starts = accepted_starts n plan_network (sym (answered_network n plan_network (Ok tt) a.kept))
 
     -- an accepted input is marked by its plan
     pub accepted_mark : mark_for s ≡ mark_of (net_of n) q
-    unfolding mark_for_by mark_of_read mark_read mark_accepted
+    unfolding mark_for_by mark_of_read mark_accepted
     accepted_mark =
         ap mark_of_read ((both_read_lem s n a.plan).1 a.files)
-        ∙ ap (mark_accepted n a.plan) (sym (answered_network n plan_network Accepted a.kept))
+        ∙ ap (mark_accepted n a.plan) (sym (answered_network n plan_network (Ok tt) a.kept))
         ∙ ap (mark_of (net_of n)) (sym a.steps)
 
     -- what it is marked is the paper's mark of its steps, and no other mark is
@@ -85,35 +84,33 @@ module _ (s : List ℕ) (bytes : Bytes s) where
 
   -- what breaks a rule is refused by its first broken rule, with its place
   pub first_is : (f : Refusal) → FirstRuleBoth s f → Mark·.Refused f ≡ mark_for s
-  unfolding mark_for_by mark_of_read mark_read mark_accepted
-  first_is f (in_bytes b) = ap (mark_read (both_read (both_input s)).net (both_read (both_input s)).plan) (sym ((both_unread s f).1 b))
+  unfolding mark_for_by mark_of_read mark_accepted
+  first_is f (in_bytes b) = ap mark_of_read (sym ((both_unread s f).1 b))
   first_is f (in_network n p files h) =
-      ap (mark_accepted n p) (answered_network n (files_formed n p files).net (Refused f) h) ∙ sym (ap mark_of_read ((both_read_lem s n p).1 files))
+      ap (mark_accepted n p) (answered_network n (files_formed n p files).net (Err f) h) ∙ sym (ap mark_of_read ((both_read_lem s n p).1 files))
 
   -- rules 14 to 18
-  judged_accepted : (n : Network) (p : Plan) → BothOf s n p → (a : Answer) → answer_to n ≡ a → Judged s (mark_accepted n p a)
+  judged_accepted : (n : Network) (p : Plan) → BothOf s n p → (a : Result Unit Refusal) → answer_to n ≡ a → Judged s (mark_accepted n p a)
   unfolding mark_accepted
   judged_accepted n p files a h = go (files_formed n p files).net a h
     where
-      go : WellFormed n → (a : Answer) → answer_to n ≡ a → Judged s (mark_accepted n p a)
-      go w Accepted h =
+      go : WellFormed n → (a : Result Unit Refusal) → answer_to n ≡ a → Judged s (mark_accepted n p a)
+      go w (Ok u) h =
           marked n (steps_of p)
           (record { plan = p; files = files; steps = refl; kept = subst (Answered (net_of n)) h (network_answered n w) })
           (mark_marked (net_of n) (formed_net n w) (accepted_starts n w h).safe (steps_of p))
-      go w (Refused f) h = refused (in_network n p files (subst (Answered (net_of n)) h (network_answered n w)))
+      go w (Err f) h = refused (in_network n p files (subst (Answered (net_of n)) h (network_answered n w)))
 
   -- rules 1 to 13 and 20
-  judged_read : (r : BothRead) → both_read (both_input s) ≡ r → (a : Answer) → r.answer ≡ a → Judged s (mark_read r.net r.plan a)
-  unfolding mark_read
-  judged_read r e Accepted h =
-      judged_accepted r.net r.plan
-      ((both_read_lem s r.net r.plan).0 (e ∙ ap (λ (a : Answer). record { answer = a; net = r.net; plan = r.plan }) h)) (answer_to r.net) refl
-  judged_read r e (Refused f) h = refused (in_bytes ((both_unread s f).0 (ap (λ (x : BothRead). x.answer) e ∙ h)))
+  judged_read : (r : Result Both Refusal) → both_read (both_input s) ≡ r → Judged s (mark_of_read r)
+  unfolding mark_of_read
+  judged_read (Ok b) e = judged_accepted b.net b.plan ((both_read_lem s b.net b.plan).0 e) (answer_to b.net) refl
+  judged_read (Err f) e = refused (in_bytes ((both_unread s f).0 e))
 
   -- what `mark_of` answers
   judged : Judged s (mark_for s)
-  unfolding mark_for_by mark_of_read
-  judged = judged_read (both_read (both_input s)) refl (both_read (both_input s)).answer refl
+  unfolding mark_for_by
+  judged = judged_read (both_read (both_input s)) refl
 
   -- the theorem, for its line
   pub judge_replies : JudgeReply s (mark_line (mark_for s))

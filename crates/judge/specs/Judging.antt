@@ -1,12 +1,10 @@
 -- Document 01, the judge's reply to any sequence of bytes: the line of the mark of a network file with a plan file directly behind it.
 -- Assumes nothing.
-use Rattle.std.specs.Prelude.{◌≡◌, Bool, List, ℕ}
+use Rattle.std.specs.Prelude.{◌≡◌, Bool, List, ℕ, Result, Ok, Err}
 use Rattle.network.specs.declared.Network.{Network}
 use Rattle.network.specs.declared.refusal.Refusal.{Refusal}
-use Rattle.network.specs.declared.refusal.Answer.{Answer}
-use Rattle.network.specs.declared.refusal.Answer.TheVariants.{Accepted, Refused}
 use Rattle.file_plan.specs.declared.plan.Plan.{Plan}
-use Rattle.file_both.specs.declared.BothRead.{BothRead}
+use Rattle.file_both.specs.declared.Both.{Both}
 use Rattle.file_stages.specs.Stages.{every_kind}
 use Rattle.file_both.specs.Inputs.{both_input_by, both_read}
 use Rattle.file_refusals.specs.Files.{FirstBrokenBoth}
@@ -29,12 +27,12 @@ pub record AcceptedPlan (s : List ℕ) (n : Network) (q : List Step) : Type 0 wh
   pub plan : Plan
   pub files : BothOf s n plan
   pub steps : q ≡ steps_of plan
-  pub kept : Answered (net_of n) Accepted
+  pub kept : Answered (net_of n) (Ok tt)
 
 -- the first rule that the judge's input breaks: of 1 to 13 and 20 over both files, then of 14 to 18
 pub data FirstRuleBoth (s : List ℕ) : Refusal → Type 0 where
   in_bytes : {f : Refusal} → FirstBrokenBoth s f → FirstRuleBoth s f
-  in_network : {f : Refusal} (n : Network) (p : Plan) → BothOf s n p → Answered (net_of n) (Refused f) → FirstRuleBoth s f
+  in_network : {f : Refusal} (n : Network) (p : Plan) → BothOf s n p → Answered (net_of n) (Err f) → FirstRuleBoth s f
 
 -- the judge's reply to s
 pub data JudgeReply (s : List ℕ) : List ℕ → Type 0 where
@@ -44,17 +42,14 @@ pub data JudgeReply (s : List ℕ) : List ℕ → Type 0 where
 -- ---- what computes
 
 -- rules 14 to 18
-unfoldable pub mark_accepted : Network → Plan → Answer → Mark
-mark_accepted n p Accepted = mark_of (net_of n) (steps_of p)
-mark_accepted n p (Refused f) = Mark·.Refused f
+unfoldable pub mark_accepted : Network → Plan → Result Unit Refusal → Mark
+mark_accepted n p (Ok u) = mark_of (net_of n) (steps_of p)
+mark_accepted n p (Err f) = Mark·.Refused f
 
 -- rules 1 to 13 and 20
-unfoldable pub mark_read : Network → Plan → Answer → Mark
-mark_read n p Accepted = mark_accepted n p (answer_to n)
-mark_read n p (Refused f) = Mark·.Refused f
-
-unfoldable pub mark_of_read : BothRead → Mark
-mark_of_read r = mark_read r.net r.plan r.answer
+unfoldable pub mark_of_read : Result Both Refusal → Mark
+mark_of_read (Ok b) = mark_accepted b.net b.plan (answer_to b.net)
+mark_of_read (Err f) = Mark·.Refused f
 
 -- what the bytes s are marked, by the kinds that are known, and where every kind is
 unfoldable pub mark_for_by : (ℕ → Bool) → List ℕ → Mark

@@ -11,7 +11,6 @@ use file_both::read_network_and_plan;
 use judge_line::mark_line;
 use judge_marks::Mark;
 use judge_score::marked;
-use network::refusal::Answer;
 
 // The mark of a network file with a plan file directly behind it: rules 1 to 13 and 20 over both files, then 14 to 18,
 // then the plan.
@@ -19,20 +18,12 @@ pub fn mark_of(s: &[u8]) -> Mark
     ensures value { result ≡ mark_for s.now }
     ensures judge_reply { JudgeReply s.now (mark_line result) }
 {
-    let read = read_network_and_plan(s);
-    let answer = read.answer;
-    let net = read.net;
-    let plan = read.plan;
-    match answer {
-        Answer::Refused(refusal) => Mark::Refused(refusal),
-        Answer::Accepted => {
-            let admitted = accept(net);
-            let verdict = admitted.answer;
-            match verdict {
-                Answer::Refused(refused) => Mark::Refused(refused),
-                Answer::Accepted => marked(admitted.start, plan),
-            }
-        }
+    match read_network_and_plan(s) {
+        Err(refusal) => Mark::Refused(refusal),
+        Ok(read) => match accept(read.net) {
+            Err(refusal) => Mark::Refused(refusal),
+            Ok(start) => marked(start, read.plan),
+        },
     }
 }
 

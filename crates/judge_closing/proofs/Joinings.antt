@@ -9,7 +9,8 @@ use borrow.Author.Tests.{eq-eqb, ne_eqb, lt-ltb, le-ltb}
 use native.Mathlib.Omega.{arith}
 use Rattle.feeding.specs.Parts.{closed_in}
 use Rattle.feeding.specs.Loads.{element_load, within_from?}
-use Rattle.feeding_walks.specs.Packing.{packed_grid}
+use Rattle.feeding_loads.specs.Walks.{grid_of_walk}
+use Rattle.feeding_walks.specs.declared.Walk.{Walk}
 use Rattle.feeding_part_sums.specs.Sums.{sum_grid}
 use Rattle.judge_safe_steps.specs.declared.Joining.{Joining}
 use Rattle.judge_safe_steps.specs.declared.Joining.TheVariants.{Clash, Dark, FedBy}
@@ -50,38 +51,38 @@ module _ (x y : ℕ) where
 
 -- ---- by the walks over lists
 
-module _ {chain closed sign : List ℕ} {E K l : ℕ} (ok : Joinable chain closed sign E K l) where
+module _ {walk : Walk} {closed sign : List ℕ} {l : ℕ} (ok : Joinable walk closed sign l) where
   -- what the walks are asked to be below
-  pub first_walk : 0 + element_load (sum_grid E K chain (targeted chain sign l)) (closed_in closed) (2 * E) (first_end chain l) K < 2 ^ 64
+  pub first_walk : 0 + element_load (sum_grid walk (targeted walk sign l)) (closed_in closed) (2 * walk.elements) (first_end walk l) walk.links < 2 ^ 64
   unfolding part_signs
   first_walk = omega (arith, ok.first_fits)
 
-  pub second_walk : 0 + element_load (sum_grid E K chain (targeted chain sign l)) (closed_in closed) (2 * E) (second_end chain l) K < 2 ^ 64
+  pub second_walk : 0 + element_load (sum_grid walk (targeted walk sign l)) (closed_in closed) (2 * walk.elements) (second_end walk l) walk.links < 2 ^ 64
   unfolding part_signs
   second_walk = omega (arith, ok.second_fits)
 
   pub walked : (first second : ℕ)
-      → first ≡ 0 + element_load (sum_grid E K chain (targeted chain sign l)) (closed_in closed) (2 * E) (first_end chain l) K
-      → second ≡ 0 + element_load (sum_grid E K chain (targeted chain sign l)) (closed_in closed) (2 * E) (second_end chain l) K
-      → (j : Joining) → j ≡ joining_of first second → j ≡ joining_over E K chain closed sign l
+      → first ≡ 0 + element_load (sum_grid walk (targeted walk sign l)) (closed_in closed) (2 * walk.elements) (first_end walk l) walk.links
+      → second ≡ 0 + element_load (sum_grid walk (targeted walk sign l)) (closed_in closed) (2 * walk.elements) (second_end walk l) walk.links
+      → (j : Joining) → j ≡ joining_of first second → j ≡ joining_over walk closed sign l
   unfolding joining_over part_signs
   walked first second first_is second_is j q =
-      let x : first ≡ part_signs E K chain (targeted chain sign l) (closed_in closed) (first_end chain l) = omega (arith, first_is) in
-      let y : second ≡ part_signs E K chain (targeted chain sign l) (closed_in closed) (second_end chain l) = omega (arith, second_is) in
+      let x : first ≡ part_signs walk (targeted walk sign l) (closed_in closed) (first_end walk l) = omega (arith, first_is) in
+      let y : second ≡ part_signs walk (targeted walk sign l) (closed_in closed) (second_end walk l) = omega (arith, second_is) in
       q ∙ ap₂ joining_of x y
 
 -- ---- the answer
 
-module _ (E K : ℕ) (chain closed sign rating : List ℕ) (l : ℕ) (j : Joining) (is : j ≡ joining_over E K chain closed sign l) where
-  pub clash_answer : j ≡ Clash → false ≡ closes_over E K chain closed sign rating l
+module _ (walk : Walk) (closed sign : List ℕ) (l : ℕ) (j : Joining) (is : j ≡ joining_over walk closed sign l) where
+  pub clash_answer : j ≡ Clash → false ≡ closes_over walk closed sign l
   unfolding closes_over joined_safe
-  clash_answer q = ap (joined_safe (within_from? (packed_grid E K chain rating) (closed_in (set closed l 1)))) (sym q ∙ is)
+  clash_answer q = ap (joined_safe (within_from? (grid_of_walk walk) (closed_in (set closed l 1)))) (sym q ∙ is)
 
-  pub dark_answer : j ≡ Dark → true ≡ closes_over E K chain closed sign rating l
+  pub dark_answer : j ≡ Dark → true ≡ closes_over walk closed sign l
   unfolding closes_over joined_safe
-  dark_answer q = ap (joined_safe (within_from? (packed_grid E K chain rating) (closed_in (set closed l 1)))) (sym q ∙ is)
+  dark_answer q = ap (joined_safe (within_from? (grid_of_walk walk) (closed_in (set closed l 1)))) (sym q ∙ is)
 
-  pub fed_answer : (s : ℕ) → j ≡ FedBy s → (r : Bool) → r ≡ within_from? (packed_grid E K chain rating) (closed_in (set closed l 1)) s
-      → r ≡ closes_over E K chain closed sign rating l
+  pub fed_answer : (s : ℕ) → j ≡ FedBy s → (r : Bool) → r ≡ within_from? (grid_of_walk walk) (closed_in (set closed l 1)) s
+      → r ≡ closes_over walk closed sign l
   unfolding closes_over joined_safe
-  fed_answer s q r w = w ∙ ap (joined_safe (within_from? (packed_grid E K chain rating) (closed_in (set closed l 1)))) (sym q ∙ is)
+  fed_answer s q r w = w ∙ ap (joined_safe (within_from? (grid_of_walk walk) (closed_in (set closed l 1)))) (sym q ∙ is)

@@ -1,8 +1,10 @@
 -- What an element adds to the signs of its part, by its flags.
 -- Assumes nothing.
-use mathlib.Core.Path.{◌≡◌}
-use Prim.Native.Nat.{ℕ, ◌+◌}
-use borrow.Author.Tests.{ne_eqb}
+use mathlib.Core.Path.{◌≡◌, refl}
+use mathlib.Core.Bool.{Bool, true, false}
+use Prim.Native.Nat.{ℕ, ◌+◌, ◌≤◌}
+use lib.Dec.{eqb}
+use borrow.Author.Tests.{eqb-true, eqb-false, ne_eqb}
 use native.Mathlib.Omega.{arith}
 use Rattle.judge_closing.specs.Checks.{sign_of}
 
@@ -11,13 +13,13 @@ module _ (f x : ℕ) where
   unfolding sign_of
   sign_source r h q = rw h (omega arith)
 
-  pub sign_two : f ≡ 2 → 128 ≡ sign_of f x
+  pub sign_faulty : 2 ≤ f → f ≤ 3 → 128 ≡ sign_of f x
   unfolding sign_of
-  sign_two h = rw h (omega arith)
-
-  pub sign_three : f ≡ 3 → 128 ≡ sign_of f x
-  unfolding sign_of
-  sign_three h = rw h (omega arith)
+  sign_faulty h k = go (eqb f 2) refl
+    where
+      go : (t : Bool) → eqb f 2 ≡ t → 128 ≡ sign_of f x
+      go true t = let two : f ≡ 2 = eqb-true f 2 t in rw two
+      go false t = let three : f ≡ 3 = omega (arith, eqb-false f 2 t) in rw three
 
   pub sign_none : (f ≡ 1 → ⊥) → (f ≡ 2 → ⊥) → (f ≡ 3 → ⊥) → 0 ≡ sign_of f x
   unfolding sign_of

@@ -9,24 +9,19 @@ ghost use Rattle.judge_closing.specs.Checks.{sign_of, joining_over, closes_over,
 
 use feeding_capacity::within_from;
 use feeding_part_sums::element_sum;
+use feeding_walks::Walk;
 use judge_safe_steps::Joining;
 
-// What the element x adds to the signs of its part: x + 1 for a sound source, 128 for a faulty element.
+// The signs of a part are one number, so that one walk adds them up. What the element x adds to the signs of its part: x + 1 for a sound source, 128 for a faulty element.
 fn sign_of(flags: u16, x: usize) -> u32
     requires { x < 64 }
     ensures { result ≡ sign_of flags x }
 {
-    if flags == 1 {
-        let source = x as u32;
-        return source + 1;
+    match flags {
+        1 => x as u32 + 1,
+        2 | 3 => 128,
+        _ => 0,
     }
-    if flags == 2 {
-        return 128;
-    }
-    if flags == 3 {
-        return 128;
-    }
-    0
 }
 
 // What each element adds to the signs of its part; made once per network.
@@ -35,10 +30,8 @@ pub fn signs_of(flags: &[u16]) -> [u32; 64]
     ensures { result ≡ tabulate 64 (λ x. sign_of (at flags.now x) x) }
 {
     let mut out: [u32; 64] = [0; 64];
-    let mut x: usize = 0;
-    while x < 64 {
+    for x in 0..64 {
         out[x] = sign_of(flags[x], x);
-        x += 1;
     }
     out
 }
@@ -73,49 +66,34 @@ fn joining_by(first: u64, second: u64) -> Joining
 }
 
 // What the parts of the two ends of the open link l are found to be; while they are walked, `sign` has 16,384 more at the second end.
-fn joining_at<'a>(
-    chain: &'a [u8; 448],
-    closed: &'a [u8; 96],
-    sign: &mut [u32; 64],
-    elements: usize,
-    links: usize,
-    l: usize,
-) -> Joining
-    requires { Joinable chain.now closed.now sign.old elements links l }
-    ensures value { result ≡ joining_over elements links chain.now closed.now sign.old l }
+fn joining_at(walk: &Walk, closed: &[u8; 96], sign: &mut [u32; 64], l: usize) -> Joining
+    requires { Joinable walk.now closed.now sign.old l }
+    ensures value { result ≡ joining_over walk.now closed.now sign.old l }
     ensures sign_unchanged { sign.new ≡ sign.old }
 {
-    let a = chain[256 + 2 * l + 1] as usize;
-    let b = chain[256 + 2 * l] as usize;
+    let a = walk.own.far[2 * l + 1] as usize;
+    let b = walk.own.far[2 * l] as usize;
     let own = sign[b];
-    let depth = 2 * elements;
+    let depth = 2 * walk.elements;
     sign[b] = own + 16384;
-    let first = element_sum(chain, closed, sign, elements, links, a, links, depth, 0);
-    let second = element_sum(chain, closed, sign, elements, links, b, links, depth, 0);
+    let first = element_sum(walk, closed, sign, a, walk.links, depth, 0);
+    let second = element_sum(walk, closed, sign, b, walk.links, depth, 0);
     sign[b] = own;
     joining_by(first, second)
 }
 
 // Closes the open link l of a safe configuration, and says whether it stays safe; `sign` has what each element adds.
-pub fn closing_safe<'a>(
-    chain: &'a [u8; 448],
-    closed: &mut [u8; 96],
-    sign: &mut [u32; 64],
-    rating: &'a [u32; 128],
-    elements: usize,
-    links: usize,
-    l: usize,
-) -> bool
-    requires { Closable chain.now closed.old sign.old rating.now elements links l }
-    ensures value { result ≡ closes_over elements links chain.now closed.old sign.old rating.now l }
+pub fn closing_safe(walk: &Walk, closed: &mut [u8; 96], sign: &mut [u32; 64], l: usize) -> bool
+    requires { Closable walk.now closed.old sign.old l }
+    ensures value { result ≡ closes_over walk.now closed.old sign.old l }
     ensures closed_after { closed.new ≡ set closed.old l 1 }
     ensures sign_unchanged { sign.new ≡ sign.old }
 {
-    let joining = joining_at(chain, closed, sign, elements, links, l);
+    let joining = joining_at(walk, closed, sign, l);
     closed[l] = 1;
     match joining {
         Joining::Clash => false,
         Joining::Dark => true,
-        Joining::FedBy(s) => within_from(chain, closed, rating, elements, links, s),
+        Joining::FedBy(s) => within_from(walk, closed, s),
     }
 }

@@ -10,6 +10,7 @@ use lib.Dec.{eqb, ltb}
 use lib.ListN.{length, set, get_or, length-set, get_or-eq_default}
 use lib.Seq.{get_or-set_same, get_or-set_other}
 use borrow.Author.Tests.{eqb-true, eqb-false, ne_eqb, ltb-true, ltb-false}
+use Rattle.std.specs.Prelude.{Result, Ok, Err}
 use Rattle.network.specs.declared.Network.{Network}
 use Rattle.network.specs.Accepted.{WellFormed}
 use Rattle.file_plan.specs.declared.plan.Plan.{Plan}
@@ -31,12 +32,11 @@ use Rattle.feeding_restoration.proofs.Sets.{set_at}
 use Rattle.plan_form.specs.Printing.{steps_of}
 use Rattle.plan_form.proofs.Steps.{LinksBelow}
 use Rattle.judge_marks.specs.declared.BadStep.{BadStep}
-use Rattle.judge_marks.specs.declared.Examined.{Examined}
-use Rattle.judge_marks.specs.declared.Examined.TheVariants.{AllGood, Bad}
 use Rattle.judge_marks.specs.Marks.{examined, first_bad, step_examined, steps_examined}
 use Rattle.judge_marks.proofs.Examining.{all_pass}
 use Rattle.judge_steps.proofs.Front.{step_at, steps_left, all_left, one_taken, none_left, steps_below}
 use Rattle.judge_steps.proofs.Configurations.{set_put, put_same}
+use Rattle.feeding_walks.specs.declared.Walk.{Walk}
 use Rattle.judge_closing.specs.Checks.{closes_over}
 use Rattle.judge_examine.specs.Steps.{kept_safe, Steppable}
 use Rattle.judge_examine.proofs.Networks.{Made, closable}
@@ -85,10 +85,10 @@ set_small closed l w small k m = go (eqb m l) refl
 -- ---- the loop
 
 -- the steps from step i on, the first of which has number m
-abbrev later_examined : Network → List ℕ → Plan → List ℕ → ℕ → ℕ → Examined
+abbrev later_examined : Network → List ℕ → Plan → List ℕ → ℕ → ℕ → Result Unit BadStep
 later_examined n operable p closed m i = steps_examined (net_of n) (is_in operable) (closed_in closed) m (steps_left p i)
 
-abbrev all_examined : Network → List ℕ → Plan → Examined
+abbrev all_examined : Network → List ℕ → Plan → Result Unit BadStep
 all_examined n operable p = steps_examined (net_of n) (is_in operable) (net_of n).start_closed 1 (steps_of p)
 
 -- before step i, in these states
@@ -118,13 +118,13 @@ module _ (n : Network) (w : WellFormed n) (operable : List ℕ) (p : Plan) (v : 
       }
 
   -- every step was good
-  pub last_turn : (closed : List ℕ) (i : ℕ) → Examining n operable p closed i → p.steps ≤ i → AllGood ≡ all_examined n operable p
+  pub last_turn : (closed : List ℕ) (i : ℕ) → Examining n operable p closed i → p.steps ≤ i → Ok tt ≡ all_examined n operable p
   unfolding steps_examined
   last_turn closed i now k =
       sym (ap (steps_examined (net_of n) (is_in operable) (closed_in closed) (i + 1)) (none_left p i k)) ∙ now.rest
 
   -- step i, over the lists that were made of the network
-  module _ (chain sign rating : List ℕ) (made : Made n chain sign rating)
+  module _ (walk : Walk) (sign : List ℕ) (made : Made n walk sign)
       (closed : List ℕ) (i : ℕ) (now : Examining n operable p closed i) (k : i < p.steps) where
     abbrev link : ℕ
     link = at p.link i
@@ -132,35 +132,35 @@ module _ (n : Network) (w : WellFormed n) (operable : List ℕ) (p : Plan) (v : 
     abbrev wanted : Bool
     wanted = get_or p.close i false
 
-    pub steppable : Steppable chain closed sign rating n.elements n.links (at p.link i)
+    pub steppable : Steppable walk closed sign (at p.link i)
     steppable = record {
       below = omega (arith, v.link_in i k, w.links_fit);
-      closable = λ h. closable n w chain sign rating made link (v.link_in i k) closed now.long now.safe (ne_eqb (at closed link) 1 h);
+      closable = λ h. closable n w walk sign made link (v.link_in i k) closed now.long now.safe (ne_eqb (at closed link) 1 h);
     }
 
-    module _ (want : ℕ) (want_is : want ≡ state_number (get_or p.close i false)) (m : ℕ) (m-is : m ≡ i + 1) (found : Examined)
+    module _ (want : ℕ) (want_is : want ≡ state_number (get_or p.close i false)) (m : ℕ) (m-is : m ≡ i + 1) (found : Result Unit BadStep)
         (by_tests : found ≡ examined m (eqb (at operable (at p.link i)) 1) (not (eqb (at closed (at p.link i)) want))
-        (kept_safe want (closes_over n.elements n.links chain closed sign rating (at p.link i)))) where
+        (kept_safe want (closes_over walk closed sign (at p.link i)))) where
       step_is : found ≡ step_examined (net_of n) (is_in operable) (closed_in closed) (i + 1) (step_at p i)
       unfolding step_examined net_of
       step_is =
-          by_tests ∙ found_is n w chain sign rating made closed now.long now.safe (step_at p i) (v.link_in i k) m (at operable link) want want_is (now.small link)
+          by_tests ∙ found_is n w walk sign made closed now.long now.safe (step_at p i) (v.link_in i k) m (at operable link) want want_is (now.small link)
           ∙ ap (λ (x : ℕ). step_examined (net_of n) (is_in operable) (closed_in closed) x (step_at p i)) m-is
 
       whole_is : first_bad found (steps_examined (net_of n) (is_in operable) (put (closed_in closed) link wanted) (suc (i + 1)) (steps_left p (i + 1)))
           ≡ all_examined n operable p
       unfolding steps_examined
       whole_is =
-          ap (λ (x : Examined). first_bad x (steps_examined (net_of n) (is_in operable) (put (closed_in closed) link wanted) (suc (i + 1)) (steps_left p (i + 1)))) step_is
+          ap (λ (x : Result Unit BadStep). first_bad x (steps_examined (net_of n) (is_in operable) (put (closed_in closed) link wanted) (suc (i + 1)) (steps_left p (i + 1)))) step_is
           ∙ ap (steps_examined (net_of n) (is_in operable) (closed_in closed) (i + 1)) (sym (one_taken p i k)) ∙ now.rest
 
-      pub bad_turn : (b : BadStep) → found ≡ Bad b → found ≡ all_examined n operable p
+      pub bad_turn : (b : BadStep) → found ≡ Err b → found ≡ all_examined n operable p
       unfolding first_bad
       bad_turn b e = e
-          ∙ ap (λ (x : Examined). first_bad x (steps_examined (net_of n) (is_in operable) (put (closed_in closed) link wanted) (suc (i + 1)) (steps_left p (i + 1)))) (sym e)
+          ∙ ap (λ (x : Result Unit BadStep). first_bad x (steps_examined (net_of n) (is_in operable) (put (closed_in closed) link wanted) (suc (i + 1)) (steps_left p (i + 1)))) (sym e)
           ∙ whole_is
 
-      pub good_turn : (closed' : List ℕ) → closed' ≡ set closed (at p.link i) want → (j : ℕ) → j ≡ i + 1 → found ≡ AllGood → Examining n operable p closed' j
+      pub good_turn : (closed' : List ℕ) → closed' ≡ set closed (at p.link i) want → (j : ℕ) → j ≡ i + 1 → found ≡ Ok tt → Examining n operable p closed' j
       unfolding first_bad step_examined net_of
       good_turn closed' is j next e =
           record {
@@ -171,7 +171,7 @@ module _ (n : Network) (w : WellFormed n) (operable : List ℕ) (p : Plan) (v : 
             rest =
                 ap₂ (λ (m x : ℕ). later_examined n operable p closed' m x) (ap (λ (x : ℕ). x + 1) next ∙ add-one (i + 1)) next
                 ∙ ap (λ (c : Config). steps_examined (net_of n) (is_in operable) c (suc (i + 1)) (steps_left p (i + 1))) puts
-                ∙ ap (λ (x : Examined). first_bad x (steps_examined (net_of n) (is_in operable) (put (closed_in closed) link wanted) (suc (i + 1)) (steps_left p (i + 1)))) (sym e)
+                ∙ ap (λ (x : Result Unit BadStep). first_bad x (steps_examined (net_of n) (is_in operable) (put (closed_in closed) link wanted) (suc (i + 1)) (steps_left p (i + 1)))) (sym e)
                 ∙ whole_is;
           }
         where

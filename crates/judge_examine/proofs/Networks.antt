@@ -12,7 +12,7 @@ use native.Mathlib.Omega.{arith}
 use Rattle.network.specs.declared.Network.{Network}
 use Rattle.network.specs.Accepted.{WellFormed}
 use Rattle.feeding.specs.Below.{gate, tabulate}
-use Rattle.feeding.specs.Loads.{within_from?}
+use Rattle.feeding.specs.Loads.{element_load, within_from?}
 use Rattle.feeding.specs.Networks.{Grid, Formed, net_of, grid_of, at, is_in, is_faulty}
 use Rattle.feeding.specs.Parts.{Config, closed_in, sound?}
 use Rattle.feeding.specs.Plans.{put}
@@ -24,10 +24,10 @@ use Rattle.feeding.proofs.Tests.{sound_flag}
 use Rattle.feeding.proofs.Views.{formed_net}
 use Rattle.feeding_ends.specs.declared.OwnEnds.{OwnEnds}
 use Rattle.feeding_ends.specs.Ends.{own_ends}
-use Rattle.feeding_loads.specs.Walks.{walk_grid, ends_a, ends_b, Lent}
+use Rattle.feeding_loads.specs.Walks.{walk_grid, grid_of_walk, ends_a, ends_b, Lent}
 use Rattle.feeding_loads.proofs.Same as Same
-use Rattle.feeding_walks.specs.Packing.{packed_ends, packed_rating, head_of, next_of, far_of, load_of, capacity_of, packed_grid}
-use Rattle.feeding_walks.proofs.Packed.{part_at, packed_head, packed_next, packed_far, packed_load, packed_capacity}
+use Rattle.feeding_walks.specs.declared.Walk.{Walk}
+use Rattle.feeding_walks.specs.Walking.{walk_of}
 use Rattle.feeding_part_sums.specs.Sums.{sum_grid}
 use Rattle.feeding_restoration.proofs.Sets.{ones}
 use Rattle.judge_safe_steps.specs.Tests.{with_loads, part_sum, sign_at, signs, Tells, joining_of, joined_safe, closes?}
@@ -38,64 +38,65 @@ use Rattle.judge_closing.specs.Checks.{sign_of, first_end, second_end, targeted,
 use Rattle.judge_steps.proofs.Configurations.{set_put}
 
 -- what the examination makes once of a network
-pub record Made (n : Network) (chain sign rating : List ℕ) : Type 0 where
+pub record Made (n : Network) (walk : Walk) (sign : List ℕ) : Type 0 where
   pub own : OwnEnds
   pub own_is : own ≡ own_ends (at n.from) (at n.to) (is_in (replicate 96 1)) n.links
-  pub chain_is : chain ≡ packed_ends own
+  pub walk_is : walk ≡ walk_of n own
   pub sign_is : sign ≡ tabulate 64 (λ x. sign_of (at n.flags x) x)
-  pub rating_is : rating ≡ packed_rating n.load n.capacity
 
-module _ (n : Network) (w : WellFormed n) (chain sign rating : List ℕ) (made : Made n chain sign rating) where
+module _ (n : Network) (w : WellFormed n) (walk : Walk) (sign : List ℕ) (made : Made n walk sign) where
   abbrev g : Grid
   g = (net_of n).grid
 
   abbrev all : ℕ → Bool
   all = is_in (replicate 96 1)
 
-  -- ---- the packed arrays
+  -- ---- what walks go over
 
-  head_is : head_of chain ≡ made.own.head
-  head_is = ap head_of made.chain_is
-      ∙ packed_head made.own (ap (λ (o : OwnEnds). length o.head) made.own_is ∙ Same.head_length (at n.from) (at n.to) all n.links w.links_fit)
+  own_is : walk.own ≡ made.own
+  unfolding walk_of
+  own_is = ap (λ (v : Walk). v.own) made.walk_is
 
-  next_is : next_of chain ≡ made.own.next
-  next_is = ap next_of made.chain_is
-      ∙ packed_next made.own (ap (λ (o : OwnEnds). length o.next) made.own_is ∙ Same.next_length (at n.from) (at n.to) all n.links w.links_fit)
+  load_is : walk.load ≡ n.load
+  unfolding walk_of
+  load_is = ap (λ (v : Walk). v.load) made.walk_is
 
-  far_is : far_of chain ≡ made.own.far
-  far_is = ap far_of made.chain_is
-      ∙ packed_far made.own (ap (λ (o : OwnEnds). length o.far) made.own_is ∙ Same.far_length (at n.from) (at n.to) all n.links w.links_fit)
+  capacity_is : walk.capacity ≡ n.capacity
+  unfolding walk_of
+  capacity_is = ap (λ (v : Walk). v.capacity) made.walk_is
 
-  load_is : load_of rating ≡ n.load
-  load_is = ap load_of made.rating_is ∙ packed_load n.load n.capacity w.load_long
+  elements_are : walk.elements ≡ n.elements
+  unfolding walk_of
+  elements_are = ap (λ (v : Walk). v.elements) made.walk_is
 
-  capacity_is : capacity_of rating ≡ n.capacity
-  capacity_is = ap capacity_of made.rating_is ∙ packed_capacity n.load n.capacity w.capacity_long
+  links_are : walk.links ≡ n.links
+  unfolding walk_of
+  links_are = ap (λ (v : Walk). v.links) made.walk_is
 
   formed_with : (load capacity : List ℕ) → Formed (grid_of n.elements n.links load capacity n.flags n.from n.to)
   unfolding grid_of
   formed_with load capacity = record { end_a_lt = w.from_in; end_b_lt = w.to_in; differ = w.differ }
 
   lent_with : (load capacity : List ℕ) → length load ≡ 64 → length capacity ≡ 64 → (states : List ℕ) → length states ≡ 96
-      → Lent (head_of chain) (next_of chain) (far_of chain) states load capacity n.elements n.links
-  lent_with load capacity long long' states long'' = rw (head_is, next_is, far_is)
+      → Lent walk.own.head walk.own.next walk.own.far states load capacity walk.elements walk.links
+  lent_with load capacity long long' states long'' = rw (own_is, elements_are, links_are)
       (Same.lent n.elements n.links load capacity n.flags n.from n.to (formed_with load capacity) w.elements_fit w.links_fit
       all made.own made.own_is states (λ l k _. ones l (omega (arith, w.links_fit))) (omega (arith, w.links_fit))
       (omega (arith, w.elements_fit)) (omega (arith, w.elements_fit)))
 
-  ends_a_lem : (l : ℕ) → l < n.links → ends_a (far_of chain) l ≡ at n.from l
-  ends_a_lem l k = ap (λ (xs : List ℕ). ends_a xs l) (far_is ∙ ap (λ (o : OwnEnds). o.far) made.own_is)
+  ends_a_lem : (l : ℕ) → l < n.links → ends_a walk.own.far l ≡ at n.from l
+  ends_a_lem l k = ap (λ (xs : List ℕ). ends_a xs l) (ap (λ (o : OwnEnds). o.far) (own_is ∙ made.own_is))
       ∙ Same.far_a (at n.from) (at n.to) all n.links w.links_fit l k
 
-  ends_b_lem : (l : ℕ) → l < n.links → ends_b (far_of chain) l ≡ at n.to l
-  ends_b_lem l k = ap (λ (xs : List ℕ). ends_b xs l) (far_is ∙ ap (λ (o : OwnEnds). o.far) made.own_is)
+  ends_b_lem : (l : ℕ) → l < n.links → ends_b walk.own.far l ≡ at n.to l
+  ends_b_lem l k = ap (λ (xs : List ℕ). ends_b xs l) (ap (λ (o : OwnEnds). o.far) (own_is ∙ made.own_is))
       ∙ Same.far_b (at n.from) (at n.to) all n.links w.links_fit l k
 
-  first_end_lem : (l : ℕ) → l < n.links → first_end chain l ≡ at n.from l
-  first_end_lem l k = sym (part_at 256 192 chain (2 * l + 1) (256 + 2 * l + 1) (omega (arith, w.links_fit)) (omega arith)) ∙ ends_a_lem l k
+  first_end_lem : (l : ℕ) → l < n.links → first_end walk l ≡ at n.from l
+  first_end_lem = ends_a_lem
 
-  second_end_lem : (l : ℕ) → l < n.links → second_end chain l ≡ at n.to l
-  second_end_lem l k = sym (part_at 256 192 chain (2 * l) (256 + 2 * l) (omega (arith, w.links_fit)) refl) ∙ ends_b_lem l k
+  second_end_lem : (l : ℕ) → l < n.links → second_end walk l ≡ at n.to l
+  second_end_lem = ends_b_lem
 
   -- ---- the signs
 
@@ -110,9 +111,9 @@ module _ (n : Network) (w : WellFormed n) (chain sign rating : List ℕ) (made :
 
   module _ (l : ℕ) (k : l < n.links) where
     abbrev aimed : List ℕ
-    aimed = targeted chain sign l
+    aimed = targeted walk sign l
 
-    second_lt : second_end chain l < n.elements
+    second_lt : second_end walk l < n.elements
     second_lt = rw (second_end_lem l k) (w.to_in l k)
 
     aimed_at : (x : ℕ) → x < n.elements → at aimed x ≡ sign_at g (g.end_b l) x
@@ -120,7 +121,7 @@ module _ (n : Network) (w : WellFormed n) (chain sign rating : List ℕ) (made :
     aimed_at x kx = go (eqb x (at n.to l)) refl
       where
         m : ℕ
-        m = second_end chain l
+        m = second_end walk l
 
         go : (t : Bool) → eqb x (at n.to l) ≡ t
             → at aimed x ≡ gate (sound? g x) (suc x) + (gate (g.faulty x) 128 + gate t 16384)
@@ -134,20 +135,22 @@ module _ (n : Network) (w : WellFormed n) (chain sign rating : List ℕ) (made :
               sign_at_lem x kx,
             )
         go false t =
-            get_or-set_other sign (second_end chain l) x (at sign (second_end chain l) + 16384) 0 (λ q. eqb-false x (at n.to l) t (q ∙ second_end_lem l k))
+            get_or-set_other sign (second_end walk l) x (at sign (second_end walk l) + 16384) 0 (λ q. eqb-false x (at n.to l) t (q ∙ second_end_lem l k))
             ∙ omega (arith, sign_at_lem x kx)
 
     -- the walk of signs over the lists is that over the grid
     signs_is : (c : Config) (e : ℕ) → e < n.elements
-        → part_signs n.elements n.links chain aimed c e ≡ signs g c (g.end_b l) e
+        → part_signs walk aimed c e ≡ signs g c (g.end_b l) e
     unfolding part_signs signs part_sum with_loads walk_grid net_of grid_of
-    signs_is c e ke = sym (element_load_alike (with_loads g (sign_at g (g.end_b l))) (sum_grid n.elements n.links chain aimed)
+    signs_is c e ke =
+        ap₂ (λ (m v : ℕ). element_load (sum_grid walk aimed) c (2 * m) e v) elements_are links_are
+        ∙ sym (element_load_alike (with_loads g (sign_at g (g.end_b l))) (sum_grid walk aimed)
         (with_formed g (sign_at g (g.end_b l)) (formed_net n w)) alike c c (λ _ _. refl) (2 * n.elements) e n.links ke)
       where
-        alike : Alike (with_loads g (sign_at g (g.end_b l))) (sum_grid n.elements n.links chain aimed)
+        alike : Alike (with_loads g (sign_at g (g.end_b l))) (sum_grid walk aimed)
         alike = record {
-          elements = refl;
-          links = refl;
+          elements = sym elements_are;
+          links = sym links_are;
           loads = λ x kx. sym (aimed_at x kx);
           capacities = λ x kx. sym (aimed_at x kx);
           ends_a_lem = λ m km. sym (ends_a_lem m km);
@@ -166,14 +169,14 @@ module _ (n : Network) (w : WellFormed n) (chain sign rating : List ℕ) (made :
       second : ℕ
       second = signs g c (g.end_b l) (g.end_b l)
 
-      first_is : part_signs n.elements n.links chain aimed (closed_in closed) (first_end chain l) ≡ first
+      first_is : part_signs walk aimed (closed_in closed) (first_end walk l) ≡ first
       unfolding first net_of grid_of
-      first_is = ap (part_signs n.elements n.links chain aimed (closed_in closed)) (first_end_lem l k)
+      first_is = ap (part_signs walk aimed (closed_in closed)) (first_end_lem l k)
           ∙ signs_is (closed_in closed) (at n.from l) (w.from_in l k)
 
-      second_is : part_signs n.elements n.links chain aimed (closed_in closed) (second_end chain l) ≡ second
+      second_is : part_signs walk aimed (closed_in closed) (second_end walk l) ≡ second
       unfolding second net_of grid_of
-      second_is = ap (part_signs n.elements n.links chain aimed (closed_in closed)) (second_end_lem l k)
+      second_is = ap (part_signs walk aimed (closed_in closed)) (second_end_lem l k)
           ∙ signs_is (closed_in closed) (at n.to l) (w.to_in l k)
 
       formed : Formed g
@@ -198,7 +201,7 @@ module _ (n : Network) (w : WellFormed n) (chain sign rating : List ℕ) (made :
       puts : closed_in (set closed l 1) ≡ put c l true
       puts = set_put closed l true (omega (arith, w.links_fit))
 
-      joining_is : joining_over n.elements n.links chain closed sign l ≡ joining_of first second
+      joining_is : joining_over walk closed sign l ≡ joining_of first second
       unfolding joining_over
       joining_is = ap₂ joining_of first_is second_is
 
@@ -206,36 +209,36 @@ module _ (n : Network) (w : WellFormed n) (chain sign rating : List ℕ) (made :
       unfolding net_of grid_of
       source_below s is = (fed_sound g c (g.end_b l) (g.end_a l) (g.end_b l) first second first_tells second_tells s is).below
 
-      joinable : Joinable chain closed sign n.elements n.links l
+      joinable : Joinable walk closed sign l
       joinable = record {
-        few = w.elements_fit;
+        few = omega (arith, elements_are, w.elements_fit);
         below = omega (arith, w.links_fit);
-        first_in = rw (first_end_lem l k) (w.from_in l k);
-        second_in = second_lt;
+        first_in = omega (arith, elements_are, first_end_lem l k, w.from_in l k);
+        second_in = omega (arith, elements_are, second_lt);
         sign_fits = omega (
           arith,
-          sign_at_lem (second_end chain l) second_lt,
-          gate_le (sound? g (second_end chain l)) (suc (second_end chain l)),
-          gate_le (g.faulty (second_end chain l)) 128,
+          sign_at_lem (second_end walk l) second_lt,
+          gate_le (sound? g (second_end walk l)) (suc (second_end walk l)),
+          gate_le (g.faulty (second_end walk l)) 128,
           second_lt,
           w.elements_fit,
         );
-        before = record { few = w.elements_fit; lent = lent_with aimed aimed aimed_long aimed_long closed long };
+        before = record { few = omega (arith, elements_are, w.elements_fit); lent = lent_with aimed aimed aimed_long aimed_long closed long };
         first_fits = omega (arith, first_is, first_below);
         second_fits = omega (arith, second_is, second_below);
       }
         where
           aimed_long : length aimed ≡ 64
-          aimed_long = length-set sign (second_end chain l) (at sign (second_end chain l) + 16384) ∙ sign_long
+          aimed_long = length-set sign (second_end walk l) (at sign (second_end walk l) + 16384) ∙ sign_long
 
-      pub closable : Closable chain closed sign rating n.elements n.links l
+      pub closable : Closable walk closed sign l
       closable = record {
         joinable = joinable;
         after = rw (load_is, capacity_is) (lent_with n.load n.capacity w.load_long w.capacity_long (set closed l 1) (length-set closed l 1 ∙ long));
-        fed_in = λ s q. source_below s (sym joining_is ∙ q);
+        fed_in = λ s q. omega (arith, elements_are, source_below s (sym joining_is ∙ q));
       }
 
-      pub closes_is : closes_over n.elements n.links chain closed sign rating l ≡ closes? g c l
+      pub closes_is : closes_over walk closed sign l ≡ closes? g c l
       unfolding closes_over closes? first second within_from? net_of grid_of walk_grid
       closes_is =
           ap (joined_safe lists) joining_is
@@ -243,15 +246,16 @@ module _ (n : Network) (w : WellFormed n) (chain sign rating : List ℕ) (made :
           ∙ ap (λ (c' : Config). joined_safe (within_from? g c') (joining_of first second)) puts
         where
           lists : ℕ → Bool
-          lists = within_from? (packed_grid n.elements n.links chain rating) (closed_in (set closed l 1))
+          lists = within_from? (grid_of_walk walk) (closed_in (set closed l 1))
 
           grid : ℕ → Bool
           grid = within_from? g (closed_in (set closed l 1))
 
           same : (s : ℕ) → joining_of first second ≡ FedBy s → lists s ≡ grid s
           same s is =
-              ap₂ (λ (load capacity : List ℕ). within_from? (walk_grid n.elements n.links (far_of chain) load capacity) (closed_in (set closed l 1)) s) load_is capacity_is
+              ap₂ (λ (load capacity : List ℕ). within_from? (walk_grid walk.elements walk.links walk.own.far load capacity) (closed_in (set closed l 1)) s) load_is capacity_is
+              ∙ ap₂ (λ (m v : ℕ). within_from? (walk_grid m v walk.own.far n.load n.capacity) (closed_in (set closed l 1)) s) elements_are links_are
               ∙ ap (λ (x : ℕ). not (ltb x n.elements))
               (Same.element_over_is n.elements n.links n.load n.capacity n.flags n.from n.to (formed_with n.load n.capacity)
-              w.elements_fit w.links_fit (far_of chain) ends_a_lem ends_b_lem (closed_in (set closed l 1)) (2 * n.elements) s n.links
+              w.elements_fit w.links_fit walk.own.far ends_a_lem ends_b_lem (closed_in (set closed l 1)) (2 * n.elements) s n.links
               (source_below s is))

@@ -3,22 +3,11 @@
 
 ghost use Rattle.std.specs.Prelude.{◌≡◌, ◌+◌, ◌≤◌, length};
 ghost use Rattle.std.proofs.lemmas.List.Edits.{sets};
-ghost use Rattle.judge_marks.specs.Marks.{reason_number};
 ghost use Rattle.texts.specs.Texts.{in_front};
 ghost use Rattle.judge_line.specs.MarkLines.{mark_line};
 
-use judge_marks::{Mark, Reason};
+use judge_marks::Mark;
 use texts::{put_feed, put_field, put_line, put_refused, put_text};
-
-pub fn reason_number(reason: Reason) -> u8
-    ensures { result ≡ reason_number reason }
-{
-    match reason {
-        Reason::NotOperable => 1,
-        Reason::AlreadySo => 2,
-        Reason::Unsafe => 3,
-    }
-}
 
 // The mark's line at an offset, and the place behind it.
 pub fn put_mark(out: &mut [u8], at: usize, mark: Mark) -> usize
@@ -29,8 +18,7 @@ pub fn put_mark(out: &mut [u8], at: usize, mark: Mark) -> usize
 {
     match mark {
         Mark::Broken(bad) => {
-            let reason = bad.reason;
-            let number = reason_number(reason) as u64;
+            let number = u8::from(bad.reason) as u64;
             put_line(out, at, b"BROKEN", bad.step as u64, number)
         }
         Mark::Short(element) => {

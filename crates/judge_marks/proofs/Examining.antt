@@ -6,6 +6,7 @@ use mathlib.Core.Bool.{Bool, true, false, not, false≢true}
 use mathlib.Core.List.{List, [], ◌∷◌, ◌++◌}
 use lib.ListN.{length}
 use native.Mathlib.Omega.{arith}
+use Rattle.std.specs.Prelude.{Result, Ok, Err}
 use Rattle.feeding.specs.Networks.{Net, Formed}
 use Rattle.feeding.specs.Parts.{Config}
 use Rattle.feeding.specs.Plans.{Step, GoodStep, Good, put, run, differ, good_step?}
@@ -16,8 +17,6 @@ use Rattle.feeding.proofs.Validity.{differ_out, good_step?_out}
 use Rattle.judge_marks.specs.declared.Reason.{Reason}
 use Rattle.judge_marks.specs.declared.Reason.TheVariants.{NotOperable, AlreadySo, Unsafe}
 use Rattle.judge_marks.specs.declared.BadStep.{BadStep}
-use Rattle.judge_marks.specs.declared.Examined.{Examined}
-use Rattle.judge_marks.specs.declared.Examined.TheVariants.{AllGood, Bad}
 use Rattle.judge_marks.specs.Marks.{reason_number, Fits, LowestReason, BrokenBy, examined, first_bad, step_examined, steps_examined}
 
 -- ---- reasons, states and findings
@@ -49,15 +48,15 @@ state_other : (a w : Bool) → a ≡ not w → ¬ (a ≡ w)
 state_other a true e f = false≢true (sym e ∙ f)
 state_other a false e f = false≢true (sym f ∙ e)
 
-pub all_unbad : (b : BadStep) → ¬ (AllGood ≡ Bad b)
+pub all_unbad : (b : BadStep) → ¬ (◌≡◌ {A = Result Unit BadStep} (Ok tt) (Err b))
 all_unbad b e = let z : ◌≡◌ {A = ℕ} 0 1 = cc in omega arith
 
-both_good : (x y : Examined) → first_bad x y ≡ AllGood → (x ≡ AllGood) × (y ≡ AllGood)
+both_good : (x y : Result Unit BadStep) → first_bad x y ≡ Ok tt → (x ≡ Ok tt) × (y ≡ Ok tt)
 unfolding first_bad
-both_good AllGood y h = (refl, h)
-both_good (Bad b) y h = absurd (all_unbad b (sym h))
+both_good (Ok tt) y h = (refl, h)
+both_good (Err b) y h = absurd (all_unbad b (sym h))
 
-pub all_pass : (i : ℕ) (a d e : Bool) → examined i a d e ≡ AllGood → (a ≡ true) × (d ≡ true) × (e ≡ true)
+pub all_pass : (i : ℕ) (a d e : Bool) → examined i a d e ≡ Ok tt → (a ≡ true) × (d ≡ true) × (e ≡ true)
 unfolding examined
 all_pass i false d e h = absurd (all_unbad _ (sym h))
 all_pass i true false e h = absurd (all_unbad _ (sym h))
@@ -75,9 +74,9 @@ module _ (net : Net) (formed : Formed net.grid) (op : ℕ → Type 0) (op? : ℕ
       good_step?_out net formed op op? op-in op-out c s
       (and_both (op? s.link) _ a (and_both (differ (c s.link) s.want) _ d e))
 
-  data Told (c : Config) (i : ℕ) (s : Step) : Examined → Type 0 where
-    fine : GoodStep net op c s → Told c i s AllGood
-    wrong : (r : Reason) → LowestReason net op c s r → Told c i s (Bad (record { step = i; reason = r }))
+  data Told (c : Config) (i : ℕ) (s : Step) : Result Unit BadStep → Type 0 where
+    fine : GoodStep net op c s → Told c i s (Ok tt)
+    wrong : (r : Reason) → LowestReason net op c s r → Told c i s (Err (record { step = i; reason = r }))
 
   told : (c : Config) (i : ℕ) (s : Step) → Told c i s (step_examined net op? c i s)
   unfolding step_examined examined
@@ -115,7 +114,7 @@ module _ (net : Net) (formed : Formed net.grid) (op : ℕ → Type 0) (op? : ℕ
 
   -- ---- the steps from number i on
 
-  pub examined_good : (c : Config) (i : ℕ) (q : List Step) → steps_examined net op? c i q ≡ AllGood → Good net op c q
+  pub examined_good : (c : Config) (i : ℕ) (q : List Step) → steps_examined net op? c i q ≡ Ok tt → Good net op c q
   unfolding Good steps_examined step_examined
   examined_good c i [] h = tt
   examined_good c i (s ∷ q) h =
@@ -123,12 +122,12 @@ module _ (net : Net) (formed : Formed net.grid) (op : ℕ → Type 0) (op? : ℕ
       let tests = all_pass i _ _ _ both.0 in
       (tests_good c s tests.0 tests.1 tests.2, examined_good (put c s.link s.want) (suc i) q both.1)
 
-  pub good_examined : (c : Config) (i : ℕ) (q : List Step) → Good net op c q → steps_examined net op? c i q ≡ AllGood
+  pub good_examined : (c : Config) (i : ℕ) (q : List Step) → Good net op c q → steps_examined net op? c i q ≡ Ok tt
   unfolding Good steps_examined first_bad
   good_examined c i [] g = refl
   good_examined c i (s ∷ q) g = go (step_examined net op? c i s) (told c i s) _ (good_examined (put c s.link s.want) (suc i) q g.1)
     where
-      go : (x : Examined) → Told c i s x → (y : Examined) → y ≡ AllGood → first_bad x y ≡ AllGood
+      go : (x : Result Unit BadStep) → Told c i s x → (y : Result Unit BadStep) → y ≡ Ok tt → first_bad x y ≡ Ok tt
       go _ (fine _) y e = e
       go _ (wrong r l) y e = absurd (good_unfit c s g.0 r l.fits)
 
@@ -142,7 +141,7 @@ module _ (net : Net) (formed : Formed net.grid) (op : ℕ → Type 0) (op? : ℕ
     good : Good net op c front
     reason : LowestReason net op (run c front) bad b.reason
 
-  examined_from : (c : Config) (i : ℕ) (q : List Step) (b : BadStep) → steps_examined net op? c i q ≡ Bad b → BrokenFrom c i q b
+  examined_from : (c : Config) (i : ℕ) (q : List Step) (b : BadStep) → steps_examined net op? c i q ≡ Err b → BrokenFrom c i q b
   unfolding Good steps_examined first_bad run
   examined_from c i [] b h = absurd (all_unbad b h)
   examined_from c i (s ∷ q) b h =
@@ -159,36 +158,36 @@ module _ (net : Net) (formed : Formed net.grid) (op : ℕ → Type 0) (op? : ℕ
         reason = r.reason;
       }
 
-      go : (x : Examined) → Told c i s x → (y : Examined) → (y ≡ Bad b → BrokenFrom (put c s.link s.want) (suc i) q b)
-          → first_bad x y ≡ Bad b → BrokenFrom c i (s ∷ q) b
+      go : (x : Result Unit BadStep) → Told c i s x → (y : Result Unit BadStep) → (y ≡ Err b → BrokenFrom (put c s.link s.want) (suc i) q b)
+          → first_bad x y ≡ Err b → BrokenFrom c i (s ∷ q) b
       go _ (fine g) y ih e = later g (ih e)
       go _ (wrong r l) y ih e =
           let is : b ≡ record { step = i; reason = r } = cc in
           rw is (record { front = []; bad = s; rest = q; whole = refl; number = omega arith; good = tt; reason = l })
 
   from_examined : (c : Config) (i : ℕ) (front : List Step) (bad : Step) (rest : List Step) (b : BadStep) → b.step ≡ length front + i
-      → Good net op c front → LowestReason net op (run c front) bad b.reason → steps_examined net op? c i (front ++ (bad ∷ rest)) ≡ Bad b
+      → Good net op c front → LowestReason net op (run c front) bad b.reason → steps_examined net op? c i (front ++ (bad ∷ rest)) ≡ Err b
   unfolding Good steps_examined first_bad run
   from_examined c i [] bad rest b n g l = go (step_examined net op? c i bad) (told c i bad) _
     where
-      go : (x : Examined) → Told c i bad x → (y : Examined) → first_bad x y ≡ Bad b
+      go : (x : Result Unit BadStep) → Told c i bad x → (y : Result Unit BadStep) → first_bad x y ≡ Err b
       go _ (fine f) y = absurd (good_unfit c bad f b.reason l.fits)
       go _ (wrong r k) y =
           let e : i ≡ b.step = omega arith in
-          ap₂ (λ (j : ℕ) (m : Reason). Bad (record { step = j; reason = m })) e (lowest_once c bad r b.reason k l)
+          ap₂ (λ (j : ℕ) (m : Reason). Err (record { step = j; reason = m })) e (lowest_once c bad r b.reason k l)
   from_examined c i (s ∷ front) bad rest b n g l =
       go (step_examined net op? c i s) (told c i s) _ (from_examined (put c s.link s.want) (suc i) front bad rest b (omega arith) g.1 l)
     where
-      go : (x : Examined) → Told c i s x → (y : Examined) → y ≡ Bad b → first_bad x y ≡ Bad b
+      go : (x : Result Unit BadStep) → Told c i s x → (y : Result Unit BadStep) → y ≡ Err b → first_bad x y ≡ Err b
       go _ (fine _) y e = e
       go _ (wrong r k) y e = absurd (good_unfit c s g.0 r k.fits)
 
   -- ---- from the start on
 
-  pub examined_broken : (q : List Step) (b : BadStep) → steps_examined net op? net.start_closed 1 q ≡ Bad b → BrokenBy net op q b
+  pub examined_broken : (q : List Step) (b : BadStep) → steps_examined net op? net.start_closed 1 q ≡ Err b → BrokenBy net op q b
   examined_broken q b h =
       let r = examined_from net.start_closed 1 q b h in
       record { front = r.front; bad = r.bad; rest = r.rest; whole = r.whole; number = r.number; good = r.good; reason = r.reason }
 
-  pub broken_examined : (q : List Step) (b : BadStep) → BrokenBy net op q b → steps_examined net op? net.start_closed 1 q ≡ Bad b
+  pub broken_examined : (q : List Step) (b : BadStep) → BrokenBy net op q b → steps_examined net op? net.start_closed 1 q ≡ Err b
   broken_examined q b r = rw r.whole (from_examined net.start_closed 1 r.front r.bad r.rest b r.number r.good r.reason)

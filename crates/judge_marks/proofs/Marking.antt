@@ -7,6 +7,7 @@ use mathlib.Core.List.{List}
 use lib.Dec.{ltb}
 use borrow.Author.Tests.{ltb-true, ltb-false, lt-ltb}
 use native.Mathlib.Omega.{arith}
+use Rattle.std.specs.Prelude.{Result, Ok, Err}
 use Rattle.feeding.specs.Below.{Lowest}
 use Rattle.feeding.specs.Networks.{Net, Formed}
 use Rattle.feeding.specs.Parts.{Config, Live, live?}
@@ -20,8 +21,6 @@ use Rattle.feeding.proofs.Tests.{live?_in, live?_out, dark_out, restorable?_in, 
 use Rattle.plan_problem.specs.Choosing.{CostsLeastBy, CostsLeast, NoPlan, NoneCheaperBy, NoneCheaper, PromisedBy, Promised, Choice, nothing, chosen, planned, printed_plan}
 use Rattle.plan_problem.proofs.Choices.{PromisedChoice, planned_promised, cheapest_unique, promised_least}
 use Rattle.judge_marks.specs.declared.BadStep.{BadStep}
-use Rattle.judge_marks.specs.declared.Examined.{Examined}
-use Rattle.judge_marks.specs.declared.Examined.TheVariants.{AllGood, Bad}
 use Rattle.judge_marks.specs.declared.Standing.TheVariants as Standing·
 use Rattle.judge_marks.specs.declared.Score.{Score}
 use Rattle.judge_marks.specs.declared.Mark.{Mark}
@@ -64,7 +63,7 @@ module _ (net : Net) (formed : Formed net.grid) where
       (price : List Step → ℕ) (cheapest : ℕ)
       (least-of : (q : List Step) → Valid net op (Restored net) q → CostsLeastBy net op (Restored net) price cheapest) where
     -- what the steps are found to be
-    abbrev found : List Step → Examined
+    abbrev found : List Step → Result Unit BadStep
     found q = steps_examined net op? net.start_closed 1 q
 
     -- the lowest restorable element that the steps leave dark
@@ -74,17 +73,17 @@ module _ (net : Net) (formed : Formed net.grid) where
     abbrev mark : List Step → Mark
     mark q = mark_by net op? price cheapest q
 
-    gives_broken : (q : List Step) (b : BadStep) → found q ≡ Bad b → mark q ≡ Mark·.Broken b
+    gives_broken : (q : List Step) (b : BadStep) → found q ≡ Err b → mark q ≡ Mark·.Broken b
     unfolding mark_by mark_with standing_by standing_after
-    gives_broken q b h = ap (λ (x : Examined). mark_with cheapest (standing_after net price q x)) h
+    gives_broken q b h = ap (λ (x : Result Unit BadStep). mark_with cheapest (standing_after net price q x)) h
 
-    gives_short : (q : List Step) → found q ≡ AllGood → ltb (dark q) net.grid.E ≡ true → mark q ≡ Mark·.Short (dark q)
+    gives_short : (q : List Step) → found q ≡ Ok tt → ltb (dark q) net.grid.E ≡ true → mark q ≡ Mark·.Short (dark q)
     unfolding mark_by mark_with standing_by standing_after standing_at
-    gives_short q h t = ap (λ (x : Examined). mark_with cheapest (standing_after net price q x)) h ∙ rw (t, standing_at)
+    gives_short q h t = ap (λ (x : Result Unit BadStep). mark_with cheapest (standing_after net price q x)) h ∙ rw (t, standing_at)
 
-    gives_score : (q : List Step) → found q ≡ AllGood → ltb (dark q) net.grid.E ≡ false → mark q ≡ scored_at cheapest (price q)
+    gives_score : (q : List Step) → found q ≡ Ok tt → ltb (dark q) net.grid.E ≡ false → mark q ≡ scored_at cheapest (price q)
     unfolding mark_by mark_with standing_by standing_after standing_at
-    gives_score q h t = ap (λ (x : Examined). mark_with cheapest (standing_after net price q x)) h ∙ rw (t, standing_at)
+    gives_score q h t = ap (λ (x : Result Unit BadStep). mark_with cheapest (standing_after net price q x)) h ∙ rw (t, standing_at)
 
     score_is_by : (q : List Step) → Valid net op (Restored net) q → (cost least : ℕ) → cost ≡ price q
         → CostsLeastBy net op (Restored net) price least → Mark·.Valid (record { cost = cost; excess = cost - least }) ≡ scored_at cheapest (price q)
@@ -100,25 +99,25 @@ module _ (net : Net) (formed : Formed net.grid) where
         let above : price q ≡ cheapest + (price q - cheapest) = omega (arith, least.least q v) in
         valid (record { valid = v; own = refl; cheapest = cheapest; least = least; above = above })
 
-    found_good : (q : List Step) → found q ≡ AllGood → Good net op net.start_closed q
+    found_good : (q : List Step) → found q ≡ Ok tt → Good net op net.start_closed q
     found_good q = examined_good net formed op op? op-in op-out net.start_closed 1 q
 
     pub mark_marked_by : (q : List Step) → MarkedBy net op price q (mark_by net op? price cheapest q)
     mark_marked_by q = go (found q) refl (ltb (dark q) net.grid.E) refl
       where
-        go : (x : Examined) → found q ≡ x → (t : Bool) → ltb (dark q) net.grid.E ≡ t → MarkedBy net op price q (mark q)
-        go (Bad b) h t k =
+        go : (x : Result Unit BadStep) → found q ≡ x → (t : Bool) → ltb (dark q) net.grid.E ≡ t → MarkedBy net op price q (mark q)
+        go (Err b) h t k =
             subst (MarkedBy net op price q) (sym (gives_broken q b h)) (broken (examined_broken net formed op op? op-in op-out q b h))
-        go AllGood h true t =
+        go (Ok tt) h true t =
             subst (MarkedBy net op price q) (sym (gives_short q h t))
             (short (record { good = found_good q h; below = ltb-true _ _ t; lowest = dark_lowest (run net.start_closed q) }))
-        go AllGood h false t =
+        go (Ok tt) h false t =
             subst (MarkedBy net op price q) (sym (gives_score q h t))
             (scored_by q (record { good = found_good q h; meets = dark_restored (run net.start_closed q) (ltb-false _ _ t) }))
 
     -- ---- and no other is
 
-    good_found : (q : List Step) → Good net op net.start_closed q → found q ≡ AllGood
+    good_found : (q : List Step) → Good net op net.start_closed q → found q ≡ Ok tt
     good_found q = good_examined net formed op op? op-in op-out net.start_closed 1 q
 
     valid_scored : (q : List Step) → Valid net op (Restored net) q → mark q ≡ scored_at cheapest (price q)

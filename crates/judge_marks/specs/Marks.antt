@@ -1,6 +1,6 @@
 -- Document 01, the judge's marks: BROKEN, SHORT and VALID for a list of steps. Operable set and cost are parameters; what computes takes the cheapest cost too.
 -- Assumes nothing.
-use Rattle.std.specs.Prelude.{◌≡◌, Bool, true, false, not, ◌&&◌, List, [], ◌∷◌, ◌++◌, ℕ, suc, ◌+◌, ◌-◌, ◌≤◌, ◌<◌, ltb, length}
+use Rattle.std.specs.Prelude.{◌≡◌, Bool, true, false, not, ◌&&◌, List, [], ◌∷◌, ◌++◌, ℕ, suc, ◌+◌, ◌-◌, ◌≤◌, ◌<◌, ltb, length, Result, Ok, Err}
 use Rattle.network.specs.Refusals.{pick}
 use Rattle.feeding.specs.Below.{Lowest, lowest}
 use Rattle.feeding.specs.Networks.{Net}
@@ -14,8 +14,6 @@ use Rattle.plan_problem.specs.Choosing.{CostsLeastBy, Planning, unplanned, by, p
 use Rattle.judge_marks.specs.declared.Reason.{Reason}
 use Rattle.judge_marks.specs.declared.Reason.TheVariants.{NotOperable, AlreadySo, Unsafe}
 use Rattle.judge_marks.specs.declared.BadStep.{BadStep}
-use Rattle.judge_marks.specs.declared.Examined.{Examined}
-use Rattle.judge_marks.specs.declared.Examined.TheVariants.{AllGood, Bad}
 use Rattle.judge_marks.specs.declared.Standing.{Standing}
 use Rattle.judge_marks.specs.declared.Standing.TheVariants as Standing·
 use Rattle.judge_marks.specs.declared.Score.{Score}
@@ -82,24 +80,24 @@ Marked net q m = MarkedBy net (Operable net) (cost_of net) q m
 -- ---- what computes, for any operable test, cost and cheapest cost
 
 -- step number i, by three tests: whether it operates an operable switch, whether it changes the state, whether what it reaches is safe
-unfoldable pub examined : ℕ → Bool → Bool → Bool → Examined
-examined i false changes safe = Bad (record { step = i; reason = NotOperable })
-examined i true false safe = Bad (record { step = i; reason = AlreadySo })
-examined i true true false = Bad (record { step = i; reason = Unsafe })
-examined i true true true = AllGood
+unfoldable pub examined : ℕ → Bool → Bool → Bool → Result Unit BadStep
+examined i false changes safe = Err (record { step = i; reason = NotOperable })
+examined i true false safe = Err (record { step = i; reason = AlreadySo })
+examined i true true false = Err (record { step = i; reason = Unsafe })
+examined i true true true = Ok tt
 
 -- the first that is bad
-unfoldable pub first_bad : Examined → Examined → Examined
-first_bad AllGood rest = rest
-first_bad (Bad b) rest = Bad b
+unfoldable pub first_bad : Result Unit BadStep → Result Unit BadStep → Result Unit BadStep
+first_bad (Ok tt) rest = rest
+first_bad (Err b) rest = Err b
 
 -- one step in the configuration c
-unfoldable pub step_examined : Net → (ℕ → Bool) → Config → ℕ → Step → Examined
+unfoldable pub step_examined : Net → (ℕ → Bool) → Config → ℕ → Step → Result Unit BadStep
 step_examined net op c i s = examined i (op s.link) (differ (c s.link) s.want) (safe? net.grid (put c s.link s.want))
 
 -- the steps from number i on, which stands in the configuration c
-unfoldable pub steps_examined : Net → (ℕ → Bool) → Config → ℕ → List Step → Examined
-steps_examined net op c i [] = AllGood
+unfoldable pub steps_examined : Net → (ℕ → Bool) → Config → ℕ → List Step → Result Unit BadStep
+steps_examined net op c i [] = Ok tt
 steps_examined net op c i (s ∷ q) = first_bad (step_examined net op c i s) (steps_examined net op (put c s.link s.want) (suc i) q)
 
 -- the lowest restorable element that is dark; E where there is none
@@ -110,9 +108,9 @@ dark_place net c = lowest net.grid.E (λ e. restorable? net e && not (live? net.
 unfoldable pub standing_at : Net → ℕ → ℕ → Standing
 standing_at net cost dark = elim (ltb dark net.grid.E) [ true ↦ Standing·.Short dark | false ↦ Standing·.Complete cost ]
 
-unfoldable pub standing_after : Net → (List Step → ℕ) → List Step → Examined → Standing
-standing_after net price q AllGood = standing_at net (price q) (dark_place net (run net.start_closed q))
-standing_after net price q (Bad b) = Standing·.Broken b
+unfoldable pub standing_after : Net → (List Step → ℕ) → List Step → Result Unit BadStep → Standing
+standing_after net price q (Ok tt) = standing_at net (price q) (dark_place net (run net.start_closed q))
+standing_after net price q (Err b) = Standing·.Broken b
 
 -- how a list of steps stands before the cheapest cost is known
 unfoldable pub standing_by : Net → (ℕ → Bool) → (List Step → ℕ) → List Step → Standing

@@ -1,5 +1,8 @@
-// What the judge says of a submitted plan: document 01's marks, and their laws; no function.
+// What the judge says of a submitted plan: document 01's marks, and their laws.
 #![tactic(auto)]
+
+ghost use Rattle.std.specs.Prelude.{◌≡◌};
+ghost use Rattle.judge_marks.specs.Marks.{reason_number};
 
 use network::refusal::Refusal;
 
@@ -11,18 +14,24 @@ pub enum Reason {
     Unsafe,
 }
 
+// The reason as document 01 numbers it.
+impl From<Reason> for u8 {
+    ghost from_gives = { λ reason n. n ≡ reason_number reason };
+
+    fn from(reason: Reason) -> u8 {
+        match reason {
+            Reason::NotOperable => 1,
+            Reason::AlreadySo => 2,
+            Reason::Unsafe => 3,
+        }
+    }
+}
+
 // A bad step: its number, from 1 on, and the lowest reason that fits.
 #[derive(Clone, Copy)]
 pub struct BadStep {
     pub step: usize,
     pub reason: Reason,
-}
-
-// What the steps of a plan are found to be: the first bad one decides.
-#[derive(Clone, Copy)]
-pub enum Examined {
-    AllGood,
-    Bad(BadStep),
 }
 
 // How a plan stands before the cheapest cost is known: what it costs, where its steps are good and leave nothing dark.

@@ -3,12 +3,11 @@
 use mathlib.Core.Path.{◌≡◌, refl, sym, ap, ◌∙◌, subst}
 use mathlib.Core.Bool.{Bool, true, false, ◌||◌}
 use mathlib.Core.List.{List}
-use Prim.Native.Nat.{ℕ, ◌<◌, ◌≤◌}
+use Prim.Native.Nat.{ℕ}
 use native.Mathlib.Omega.{arith}
-use borrow.Author.Tests.{lt-ltb, le-ltb}
+use Rattle.std.specs.Prelude.{Result, Ok, Err, Option, Some, None, ltb}
 use Rattle.network.specs.declared.Network.{Network}
 use Rattle.network.specs.declared.refusal.Refusal.{Refusal}
-use Rattle.network.specs.declared.refusal.Answer.TheVariants.{Refused}
 use Rattle.network.specs.Accepted.{WellFormed}
 use Rattle.file_plan.specs.declared.plan.Plan.{Plan}
 use Rattle.file_plan.specs.Accepted.{WellFormedPlan}
@@ -21,37 +20,49 @@ use Rattle.feeding.specs.Restoration.{operable?}
 use Rattle.feeding.proofs.Views.{formed_net}
 use Rattle.feeding_restoration.proofs.Sets.{set_at}
 use Rattle.plan_form.specs.Printing.{steps_of}
-use Rattle.plan_least_cost.specs.declared.Cheapest.{Cheapest}
-use Rattle.plan_least_cost.specs.declared.Cheapest.TheVariants as Cheapest·
 use Rattle.plan_least_cost.specs.LeastCost.{CheapestIn}
 use Rattle.judge_marks.specs.declared.BadStep.{BadStep}
-use Rattle.judge_marks.specs.declared.Examined.{Examined}
-use Rattle.judge_marks.specs.declared.Examined.TheVariants.{AllGood, Bad}
 use Rattle.judge_marks.specs.declared.Standing.{Standing}
 use Rattle.judge_marks.specs.declared.Standing.TheVariants as Standing·
 use Rattle.judge_marks.specs.declared.Mark.{Mark}
-use Rattle.judge_marks.specs.declared.Mark.TheVariants as Mark·
 use Rattle.judge_marks.specs.Marks.{steps_examined, dark_place, standing_at, standing_after, standing_by, standing_of, complete?, cost_asked, AtMost, cheapest_cost, mark_with, mark_by, mark_under, mark_of}
 use Rattle.judge_marks.proofs.Marking.{cost_cheapest, none_cheapest, complete_room}
+use Rattle.feeding.specs.Below.{some_below}
 use Rattle.judge_steps.proofs.Front.{steps_below}
 use Rattle.judge_examine.proofs.Examining.{examined_same}
 
 -- ---- all steps are good
 
-module _ (net : Net) (cost place dark : ℕ) (is : dark ≡ place) where
-  pub short_at : dark < net.grid.E → Standing·.Short dark ≡ standing_at net cost place
-  unfolding standing_at
-  short_at h = rw (lt-ltb place net.grid.E (omega arith), standing_at) (ap Standing·.Short is)
+some_none : {x : ℕ} → ¬ (◌≡◌ {A = Option ℕ} (Some x) None)
+some_none e = let z : ◌≡◌ {A = ℕ} 0 1 = cc in omega arith
 
-  pub complete_at : net.grid.E ≤ dark → (x : ℕ) → x ≡ cost → Standing·.Complete x ≡ standing_at net cost place
+module _ (net : Net) (cost place : ℕ) (found : Option ℕ) (is : found ≡ some_below net.grid.E place) where
+  -- the place is below the count, or it is not
+  told : (t : Bool) → ltb place net.grid.E ≡ t → found ≡ elim t [ true ↦ Some place | false ↦ None ]
+  unfolding some_below
+  told t e = is ∙ rw (e, some_below) refl
+
+  pub short_at : (dark : ℕ) → found ≡ Some dark → Standing·.Short dark ≡ standing_at net cost place
   unfolding standing_at
-  complete_at h x e = rw (le-ltb place net.grid.E (omega arith), standing_at) (ap Standing·.Complete e)
+  short_at dark h = go (ltb place net.grid.E) refl
+    where
+      go : (t : Bool) → ltb place net.grid.E ≡ t → Standing·.Short dark ≡ standing_at net cost place
+      go true e = rw (e, standing_at) (ap Standing·.Short (let same : ◌≡◌ {A = Option ℕ} (Some dark) (Some place) = sym h ∙ told true e in cc))
+      go false e = absurd (some_none (sym h ∙ told false e))
+
+  pub complete_at : found ≡ None → (x : ℕ) → x ≡ cost → Standing·.Complete x ≡ standing_at net cost place
+  unfolding standing_at
+  complete_at h x e = go (ltb place net.grid.E) refl
+    where
+      go : (t : Bool) → ltb place net.grid.E ≡ t → Standing·.Complete x ≡ standing_at net cost place
+      go true t = absurd (some_none (sym (told true t) ∙ h))
+      go false t = rw (t, standing_at) (ap Standing·.Complete e)
 
 -- ---- what the steps are found to be, with the set of operable switches that is handed in
 
 module _ (n : Network) (w : WellFormed n) (p : Plan) (v : WellFormedPlan n.links p)
     (operable : List ℕ) (operable_is : operable ≡ bits 96 n.links (operable? (net_of n)))
-    (x : Examined) (is : x ≡ steps_examined (net_of n) (is_in operable) (net_of n).start_closed 1 (steps_of p)) where
+    (x : Result Unit BadStep) (is : x ≡ steps_examined (net_of n) (is_in operable) (net_of n).start_closed 1 (steps_of p)) where
   -- the set is asked at the steps' links only
   found_is : x ≡ steps_examined (net_of n) (operable? (net_of n)) (net_of n).start_closed 1 (steps_of p)
   unfolding net_of grid_of
@@ -60,16 +71,22 @@ module _ (n : Network) (w : WellFormed n) (p : Plan) (v : WellFormedPlan n.links
       ∙ examined_same (net_of n) (formed_net n w) (is_in operable) (operable? (net_of n)) (set_at n w n.links _ operable w.links_fit operable_is)
       (net_of n).start_closed (net_of n).start_closed (λ _ _. refl) 1 (steps_of p) (steps_below n.links p v)
 
-  pub broken_standing : (b : BadStep) → x ≡ Bad b → Standing·.Broken b ≡ standing_of (net_of n) (steps_of p)
+  pub broken_standing : (b : BadStep) → x ≡ Err b → Standing·.Broken b ≡ standing_of (net_of n) (steps_of p)
   unfolding standing_by standing_after
   broken_standing b e = ap (standing_after (net_of n) (cost_of (net_of n)) (steps_of p)) (sym e ∙ found_is)
 
-  pub good_standing : x ≡ AllGood → (f : Standing)
+  pub good_standing : x ≡ Ok tt → (f : Standing)
       → f ≡ standing_at (net_of n) (cost_of (net_of n) (steps_of p)) (dark_place (net_of n) (run (net_of n).start_closed (steps_of p))) → f ≡ standing_of (net_of n) (steps_of p)
   unfolding standing_by standing_after
   good_standing e f h = h ∙ ap (standing_after (net_of n) (cost_of (net_of n)) (steps_of p)) (sym e ∙ found_is)
 
 -- ---- one of two asks
+
+pub incomplete : (found : Standing) → ((cost : ℕ) → found ≡ Standing·.Complete cost → ⊥) → false ≡ complete? found
+unfolding complete?
+incomplete (Standing·.Broken b) h = refl
+incomplete (Standing·.Short e) h = refl
+incomplete (Standing·.Complete cost) h = absurd (h cost refl)
 
 pub first_asks : (one other : Standing) (r : Bool) → r ≡ (complete? one || complete? other) → complete? one ≡ true → r ≡ true
 first_asks one other r e h = e ∙ ap (λ (x : Bool). x || complete? other) h
@@ -88,18 +105,15 @@ module _ (n : Network) (w : WellFormed n) (st : Starts (net_of n)) where
   unfolding cost_asked
   not_asked asked e = rw e
 
-  module _ (asked : Bool) (is : asked ≡ true) (r : Cheapest) (found : CheapestIn (net_of n) r) where
-    pub asked_cost : (least : ℕ) → r ≡ Cheapest·.Cost least → (x : ℕ) → x ≡ least → x ≡ cost_asked (net_of n) asked
+  module _ (asked : Bool) (is : asked ≡ true) (r : Option ℕ) (found : CheapestIn (net_of n) r) where
+    pub asked_cost : (least : ℕ) → r ≡ Some least → (x : ℕ) → x ≡ least → x ≡ cost_asked (net_of n) asked
     unfolding cost_asked
     asked_cost least e x same =
         rw is (same ∙ cost_cheapest (net_of n) (formed_net n w) st.safe least (subst (CheapestIn (net_of n)) e found))
 
-    pub asked_none : r ≡ Cheapest·.NoPlan → (x : ℕ) → x ≡ 0 → x ≡ cost_asked (net_of n) asked
+    pub asked_none : r ≡ None → (x : ℕ) → x ≡ 0 → x ≡ cost_asked (net_of n) asked
     unfolding cost_asked
     asked_none e x same = rw is (same ∙ none_cheapest (net_of n) (formed_net n w) st.safe (subst (CheapestIn (net_of n)) e found))
-
-    pub asked_refused : (f : Refusal) → r ≡ Cheapest·.Refused f → (x : ℕ) → x ≡ cost_asked (net_of n) asked
-    asked_refused f e x = absurd (subst (CheapestIn (net_of n)) e found)
 
   -- ---- the mark of a plan that stands so, by the cheapest cost where this plan, or another, asks for it
 

@@ -13,9 +13,9 @@ ghost use Rattle.judge_marks.specs.Marks.{dark_place, standing_at, standing_of, 
 use feeding_start::Start;
 use file_plan::plan::Plan;
 use judge_examine::examine;
-use judge_marks::{BothMarks, Examined, Mark, Score, Standing};
+use judge_marks::{BothMarks, Mark, Score, Standing};
 use judge_steps::{lowest_dark, plan_cost, states_after};
-use plan_least_cost::{Cheapest, cheapest_cost};
+use plan_least_cost::cheapest_cost;
 
 // Where all steps are good: the lowest element still dark, or what the plan costs.
 fn finished(start: Start, plan: Plan) -> Standing
@@ -23,14 +23,11 @@ fn finished(start: Start, plan: Plan) -> Standing
     requires well_formed_plan { WellFormedPlan start.net.links plan }
     ensures { result ≡ standing_at (net_of start.net) (cost_of (net_of start.net) (steps_of plan)) (dark_place (net_of start.net) (run (net_of start.net).start_closed (steps_of plan))) }
 {
-    let first = start.closed;
-    let closed = states_after(first, plan);
-    let dark = lowest_dark(start, &closed);
-    if dark < start.net.elements {
-        return Standing::Short(dark);
+    let closed = states_after(start.closed, plan);
+    match lowest_dark(start, &closed) {
+        Some(dark) => Standing::Short(dark),
+        None => Standing::Complete(plan_cost(start.net, plan)),
     }
-    let cost = plan_cost(start.net, plan);
-    Standing::Complete(cost)
 }
 
 // How a plan stands before the cheapest cost is known.
@@ -39,10 +36,9 @@ fn standing_of(start: Start, plan: Plan) -> Standing
     requires well_formed_plan { WellFormedPlan start.net.links plan }
     ensures { result ≡ standing_of (net_of start.net) (steps_of plan) }
 {
-    let examined = examine(start, plan);
-    match examined {
-        Examined::Bad(bad) => Standing::Broken(bad),
-        Examined::AllGood => finished(start, plan),
+    match examine(start, plan) {
+        Err(bad) => Standing::Broken(bad),
+        Ok(()) => finished(start, plan),
     }
 }
 
@@ -50,23 +46,16 @@ fn standing_of(start: Start, plan: Plan) -> Standing
 fn complete(found: Standing) -> bool
     ensures { result ≡ complete? found }
 {
-    match found {
-        Standing::Broken(_) => false,
-        Standing::Short(_) => false,
-        Standing::Complete(_) => true,
-    }
+    matches!(found, Standing::Complete(_))
 }
 
 fn either_complete(one: Standing, other: Standing) -> bool
     ensures { result ≡ (complete? one || complete? other) }
 {
-    if complete(one) {
-        return true;
-    }
-    complete(other)
+    complete(one) || complete(other)
 }
 
-// The cheapest cost where it is asked for, and 0 where it is not. The last arm is not reached: the network is accepted.
+// The cheapest cost where it is asked for and there is one, and else 0.
 fn least_asked(start: Start, asked: bool) -> u64
     requires { Begun start }
     ensures { result ≡ cost_asked (net_of start.net) asked }
@@ -74,11 +63,9 @@ fn least_asked(start: Start, asked: bool) -> u64
     if !asked {
         return 0;
     }
-    let cheapest = cheapest_cost(start);
-    match cheapest {
-        Cheapest::Cost(least) => least,
-        Cheapest::NoPlan => 0,
-        Cheapest::Refused(_) => 0,
+    match cheapest_cost(start) {
+        Some(least) => least,
+        None => 0,
     }
 }
 

@@ -1,11 +1,12 @@
 -- The turns of the other loops: the states that the steps left make, and the lowest element that is still dark.
 -- Assumes nothing.
 use mathlib.Core.Path.{◌≡◌, refl, sym, ap, ap₂, ◌∙◌}
-use mathlib.Core.Bool.{Bool, false, not, ◌&&◌}
-use mathlib.Core.List.{List, [], ◌∷◌}
-use Prim.Native.Nat.{ℕ, ◌+◌, ◌*◌, ◌≤◌, ◌<◌}
+use mathlib.Core.Bool.{Bool, true, false, not, ◌&&◌}
+use mathlib.Core.List.{List}
+use Prim.Native.Nat.{ℕ, ◌+◌, ◌≤◌, ◌<◌}
 use native.Mathlib.Omega.{arith}
 use lib.ListN.{length, set, get_or, length-set}
+use mir.Val.{bool_byte}
 use Rattle.network.specs.declared.Network.{Network}
 use Rattle.network.specs.Accepted.{WellFormed}
 use Rattle.file_plan.specs.declared.plan.Plan.{Plan}
@@ -13,8 +14,6 @@ use Rattle.file_writer.specs.Writing.{state_number}
 use Rattle.feeding.specs.Below.{bits, lowest}
 use Rattle.feeding.specs.Networks.{net_of, grid_of, at, is_in}
 use Rattle.feeding.specs.Parts.{closed_in, live?}
-use Rattle.feeding.specs.Plans.{Step}
-use Rattle.feeding.specs.Costs.{cost_of}
 use Rattle.feeding.specs.Restoration.{restorable?}
 use Rattle.feeding.proofs.Lows.{lowest_ext}
 use Rattle.feeding_sets.specs.Sets.{but_not}
@@ -25,6 +24,10 @@ use Rattle.judge_steps.specs.States.{states_run}
 use Rattle.judge_steps.proofs.Front.{steps_left, all_left, one_taken, none_left}
 
 -- ---- states
+
+pub state_byte : (b : Bool) → bool_byte b ≡ state_number b
+state_byte true = refl
+state_byte false = refl
 
 -- what is left makes of these states what all steps make of those at the start
 pub record Running (p : Plan) (start closed : List ℕ) (i : ℕ) : Type 0 where

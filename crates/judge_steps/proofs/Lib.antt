@@ -1,4 +1,5 @@
 pub mod Front
 pub mod Configurations
+pub mod Finding
 pub mod Following
 pub mod Paying

@@ -1,11 +1,11 @@
 // A submitted plan carried out: the states that it leads to, its cost, and what is still dark then.
 #![tactic(auto)]
 
-ghost use Rattle.std.specs.Prelude.{◌≡◌, ◌≤◌, length};
+ghost use Rattle.std.specs.Prelude.{◌≡◌, ◌≤◌, eqb, length, take};
+ghost use Rattle.std.specs.List.{position};
 ghost use Rattle.network.specs.Accepted.{WellFormed};
 ghost use Rattle.file_plan.specs.Accepted.{WellFormedPlan};
-ghost use Rattle.file_writer.specs.Writing.{state_number};
-ghost use Rattle.feeding.specs.Below.{lowest};
+ghost use Rattle.feeding.specs.Below.{lowest, some_below};
 ghost use Rattle.feeding.specs.Networks.{net_of, is_in};
 ghost use Rattle.feeding.specs.Costs.{cost_of};
 ghost use Rattle.feeding.specs.Parts.{closed_in};
@@ -20,28 +20,15 @@ use feeding_start::Start;
 use file_plan::plan::Plan;
 use network::Network;
 
-// 1 for closed.
-pub fn state_of(close: bool) -> u8
-    ensures { result ≡ state_number close }
-{
-    if close {
-        return 1;
-    }
-    0
-}
-
 // The states that the steps lead to; closed[l] is 1 for a closed link.
 pub fn states_after(start: [u8; 96], plan: Plan) -> [u8; 96]
     requires { WellFormedPlan 96 plan }
     ensures { result ≡ states_run start (steps_of plan) }
 {
     let mut closed = start;
-    let count = plan.steps as usize;
-    let mut i: usize = 0;
-    while i < count {
+    for i in 0..plan.steps as usize {
         let link = plan.link[i] as usize;
-        closed[link] = state_of(plan.close[i]);
-        i += 1;
+        closed[link] = u8::from(plan.close[i]);
     }
     closed
 }
@@ -56,43 +43,31 @@ pub fn plan_cost(net: Network, plan: Plan) -> u64
     let guard = net.guard;
     let mut paid: [u8; 96] = [0; 96];
     let mut sum: u64 = 0;
-    let count = plan.steps as usize;
-    let mut i: usize = 0;
-    while i < count {
+    for i in 0..plan.steps as usize {
         let link = plan.link[i] as usize;
-        sum = sum + cost[link] as u64;
+        sum += cost[link] as u64;
         let g = guard[link] as usize;
-        if g < net.links {
-            if paid[g] == 0 {
-                paid[g] = 1;
-                sum = sum + 2 * (cost[g] as u64);
-            }
+        if g < net.links && paid[g] == 0 {
+            paid[g] = 1;
+            sum += 2 * (cost[g] as u64);
         }
-        i += 1;
     }
     sum
 }
 
-// The lowest of the first numbers that is in the set; their count where none is.
-fn lowest_member(has: &[u8], count: usize) -> usize
+// The lowest of the first numbers that is in the set.
+fn lowest_member(has: &[u8], count: usize) -> Option<usize>
     requires { count ≤ length has.now }
-    ensures { result ≡ lowest count (is_in has.now) }
+    ensures { result ≡ position (λ x. eqb x 1) (take count has.now) }
 {
-    let mut x: usize = 0;
-    while x < count {
-        if has[x] == 1 {
-            return x;
-        }
-        x += 1;
-    }
-    count
+    has[..count].iter().position(|&x| x == 1)
 }
 
-// The lowest restorable element that is dark in a configuration, or the count of elements.
-pub fn lowest_dark(start: Start, closed: &[u8]) -> usize
+// The lowest restorable element that is dark in a configuration.
+pub fn lowest_dark(start: Start, closed: &[u8]) -> Option<usize>
     requires begun { Begun start }
     requires closed_len { length closed.now ≡ 96 }
-    ensures { result ≡ dark_place (net_of start.net) (closed_in closed.now) }
+    ensures { result ≡ some_below start.net.elements (dark_place (net_of start.net) (closed_in closed.now)) }
 {
     let net = start.net;
     let from = net.from;

@@ -1,15 +1,12 @@
 // Marks the plan file directly behind the network file on standard input, and prints the mark.
 #![tactic(auto)]
 
-use streams::Input;
-
 fn main(rt: HostRuntime) {
-    let mut bytes = streams::input_buffer();
-    let input = streams::read_input(&mut rt.stdin(), &mut rt.stderr(), b"mark", &mut bytes);
-    let Input::Whole(length) = input else {
-        return;
-    };
-    let mut out = [0u8; 4096];
-    let written = judge::mark_text(&bytes[..length], &mut out);
-    streams::write_reply(&mut rt.stdout(), &mut rt.stderr(), b"mark", &out[..written]);
+    streams::reply(
+        &mut rt.stdin(),
+        &mut rt.stdout(),
+        &mut rt.stderr(),
+        b"mark",
+        |input, out| judge::mark_text(input, out),
+    );
 }

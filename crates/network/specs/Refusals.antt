@@ -1,11 +1,9 @@
 -- Document 01, "Refusals, in the order they are checked": the number of each rule, the order, and the first broken of a list of rules. Document 02: rule 20
 -- is checked "after 9 in the same record".
 -- Assumes nothing.
-use Rattle.std.specs.Prelude.{Bool, true, false, List, [], ◌∷◌, ℕ, suc, ◌<◌, eqb}
+use Rattle.std.specs.Prelude.{Bool, true, false, List, [], ◌∷◌, ℕ, suc, ◌<◌, eqb, Result, Ok, Err}
 use Rattle.network.specs.declared.refusal.Rule.{Rule}
 use Rattle.network.specs.declared.refusal.Rule.TheVariants.{RecordMissing, KindOutOfPlace, WrongLength, RecordCutOff, HeadOutOfRange, UnknownFlags, BadEnds, UnknownForm, UnsuitedCost, TooManySteps, UnknownLink, UnknownState, ByteAfterEnd, NotATree, TwoSources, FaultWithSource, Overloaded, TooManyOperable, BufferTooShort, BadGuard}
-use Rattle.network.specs.declared.refusal.Verdict.{Verdict}
-use Rattle.network.specs.declared.refusal.Verdict.TheVariants.{Kept, Broken}
 
 abbrev pub rule_number : Rule → ℕ
 rule_number RecordMissing = 1
@@ -62,6 +60,6 @@ abbrev pub check : Rule → Bool → Check
 check r b = record { rule = r; broken = b }
 
 -- the first of the rules that is broken
-abbrev pub first_broken : List Check → Verdict
-first_broken [] = Kept
-first_broken (c ∷ cs) = pick c.broken (Broken c.rule) (first_broken cs)
+abbrev pub first_broken : List Check → Result Unit Rule
+first_broken [] = Ok tt
+first_broken (c ∷ cs) = pick c.broken (Err c.rule) (first_broken cs)

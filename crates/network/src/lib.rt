@@ -7,7 +7,8 @@ ghost use Rattle.std.specs.Prelude.{◌≡◌};
 ghost use Rattle.network.specs.Networks.{empty_network};
 
 // A network as its file states it: element i and link l of the file stand at index i and l, and later entries are 0. In
-// guard 96 says that there is none: of a link without a guard, and in later entries.
+// guard 96 says that there is none: of a link without a guard, and in later entries. Fields stand in arrays of their own, forms
+// and flags as numbers: `WellFormed` and `net_of`, on which the theorems rest, read them so.
 #[derive(Clone, Copy)]
 pub struct Network {
     pub load: [u32; 64],

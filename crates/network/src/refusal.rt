@@ -3,7 +3,7 @@ ghost use Rattle.std.specs.Prelude.{◌≡◌};
 ghost use Rattle.network.specs.Refusals.{rule_number};
 
 // The rules by their numbers: document 01's, 1 to 19, then document 02's.
-#[derive(Clone, Copy)]
+#[derive(Clone, Copy, Debug, PartialEq, Eq)]
 pub enum Rule {
     RecordMissing,
     KindOutOfPlace,
@@ -28,49 +28,37 @@ pub enum Rule {
 }
 
 // What document 01 prints as `REFUSED number place`.
-#[derive(Clone, Copy)]
+#[derive(Clone, Copy, Debug, PartialEq, Eq)]
 pub struct Refusal {
     pub rule: Rule,
     pub place: usize,
 }
 
-// What an input gets of some rules: it is accepted, or refused by the first that it breaks.
-#[derive(Clone, Copy)]
-pub enum Answer {
-    Accepted,
-    Refused(Refusal),
-}
+impl From<Rule> for u8 {
+    ghost from_gives = { λ rule n. n ≡ rule_number rule };
 
-// What a check of some rules says: none is broken, or the first that is.
-#[derive(Clone, Copy)]
-pub enum Verdict {
-    Kept,
-    Broken(Rule),
-}
-
-pub fn number(rule: Rule) -> u8
-    ensures { result ≡ rule_number rule }
-{
-    match rule {
-        Rule::RecordMissing => 1,
-        Rule::KindOutOfPlace => 2,
-        Rule::WrongLength => 3,
-        Rule::RecordCutOff => 4,
-        Rule::HeadOutOfRange => 5,
-        Rule::UnknownFlags => 6,
-        Rule::BadEnds => 7,
-        Rule::UnknownForm => 8,
-        Rule::UnsuitedCost => 9,
-        Rule::TooManySteps => 10,
-        Rule::UnknownLink => 11,
-        Rule::UnknownState => 12,
-        Rule::ByteAfterEnd => 13,
-        Rule::NotATree => 14,
-        Rule::TwoSources => 15,
-        Rule::FaultWithSource => 16,
-        Rule::Overloaded => 17,
-        Rule::TooManyOperable => 18,
-        Rule::BufferTooShort => 19,
-        Rule::BadGuard => 20,
+    fn from(rule: Rule) -> u8 {
+        match rule {
+            Rule::RecordMissing => 1,
+            Rule::KindOutOfPlace => 2,
+            Rule::WrongLength => 3,
+            Rule::RecordCutOff => 4,
+            Rule::HeadOutOfRange => 5,
+            Rule::UnknownFlags => 6,
+            Rule::BadEnds => 7,
+            Rule::UnknownForm => 8,
+            Rule::UnsuitedCost => 9,
+            Rule::TooManySteps => 10,
+            Rule::UnknownLink => 11,
+            Rule::UnknownState => 12,
+            Rule::ByteAfterEnd => 13,
+            Rule::NotATree => 14,
+            Rule::TwoSources => 15,
+            Rule::FaultWithSource => 16,
+            Rule::Overloaded => 17,
+            Rule::TooManyOperable => 18,
+            Rule::BufferTooShort => 19,
+            Rule::BadGuard => 20,
+        }
     }
 }

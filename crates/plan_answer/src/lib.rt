@@ -8,7 +8,6 @@ ghost use Rattle.plan_outcome.specs.Outcomes.{outcome_of, outcome};
 use feeding_acceptance::read_accepted;
 use feeding_start::Start;
 use file_plan::plan::Plan;
-use network::refusal::Answer;
 use plan_found::cheapest_plan;
 use plan_outcome::{Outcome, Reply, outcome_of};
 
@@ -25,11 +24,9 @@ fn solve(start: Start) -> Outcome
 pub fn answer(s: &[u8]) -> Outcome
     ensures { result ≡ outcome s.now }
 {
-    let read = read_accepted(s);
-    let verdict = read.answer;
-    match verdict {
-        Answer::Accepted => solve(read.start),
-        Answer::Refused(refusal) => {
+    match read_accepted(s) {
+        Ok(start) => solve(start),
+        Err(refusal) => {
             let plan = Plan::empty();
             Outcome {
                 reply: Reply::Refused(refusal),

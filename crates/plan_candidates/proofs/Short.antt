@@ -1,11 +1,11 @@
 -- Where all sources together bear less than all restorable elements ask, no set works.
 -- Assumes nothing.
 use mathlib.Core.Path.{◌≡◌, sym, ap, ap₂, ◌∙◌}
-use mathlib.Core.Bool.{Bool, true, false}
-use Prim.Native.Nat.{ℕ, ◌<◌, ◌≤◌}
+use mathlib.Core.Bool.{Bool, true}
+use Prim.Native.Nat.{ℕ}
 use native.Mathlib.Omega.{arith}
 use lib.Dec.{ltb}
-use borrow.Author.Tests.{ltb-true, le-ltb, lt-ltb}
+use borrow.Author.Tests.{ltb-true}
 use Rattle.network.specs.declared.Network.{Network}
 use Rattle.network.specs.Accepted.{WellFormed}
 use Rattle.feeding.specs.Below.{gate}
@@ -66,11 +66,8 @@ module _ (st : Start) (ok : Searchable st) where
 
   module _ {asked borne : ℕ} (Asked-is : asked ≡ demand_in st.restorable n.load n.capacity n.elements)
       (borne-is : borne ≡ demand_in st.sound n.capacity n.capacity n.elements) where
-    pub too_little : borne < asked → true ≡ ltb (supply (net_of n).grid) (demand (net_of n) (asks_of (net_of n)))
-    too_little h = sym (lt-ltb (supply (net_of n).grid) (demand (net_of n) (asks_of (net_of n))) (omega (arith, Asked-is, borne-is, demand_is, supply_is)))
-
-    pub sufficient : asked ≤ borne → false ≡ ltb (supply (net_of n).grid) (demand (net_of n) (asks_of (net_of n)))
-    sufficient h = sym (le-ltb (supply (net_of n).grid) (demand (net_of n) (asks_of (net_of n))) (omega (arith, Asked-is, borne-is, demand_is, supply_is)))
+    pub short_is : ltb borne asked ≡ ltb (supply (net_of n).grid) (demand (net_of n) (asks_of (net_of n)))
+    short_is = ap₂ ltb (borne-is ∙ supply_is) (Asked-is ∙ demand_is)
 
 -- then no set of any switches works
 pub none_works : (st : Start) → Searchable st → (r : Bool) → r ≡ ltb (supply (net_of st.net).grid) (demand (net_of st.net) (asks_of (net_of st.net))) → r ≡ true

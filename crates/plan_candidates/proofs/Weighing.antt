@@ -19,7 +19,6 @@ use Rattle.feeding.proofs.Opening.{opening_safe}
 use Rattle.feeding.proofs.Tests.{sound?_in, sound?_out}
 use Rattle.feeding.proofs.Views.{formed_net}
 use Rattle.feeding_parts.specs.declared.Parts.{Parts}
-use Rattle.feeding_parts.proofs.Grids.{label_long}
 use Rattle.feeding_restoration.proofs.Reach.{bits_long}
 use Rattle.feeding_start.specs.declared.Start.{Start}
 use Rattle.feeding_start.specs.Starting.{Searchable}

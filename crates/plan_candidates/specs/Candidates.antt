@@ -7,8 +7,8 @@ use Rattle.feeding.specs.Networks.{Net, net_of, at, is_in}
 use Rattle.feeding.specs.Parts.{Config, closed_in}
 use Rattle.feeding.specs.Plans.{flip}
 use Rattle.feeding.specs.Restoration.{operables_by}
-use Rattle.feeding_loads.specs.Walks.{over_place}
-use Rattle.feeding_walks.specs.Packing.{PackedLent, packed_grid}
+use Rattle.feeding_loads.specs.Walks.{over_place, WalkLent, grid_of_walk}
+use Rattle.feeding_walks.specs.declared.Walk.{Walk}
 use Rattle.feeding_sets.specs.Sets.{but_not}
 use Rattle.feeding_start.specs.declared.Start.{Start}
 use Rattle.plan_problem.specs.Sets.{passing, sets_from, set_in}
@@ -45,16 +45,17 @@ abbrev pub based_on : Start → Config
 based_on s = opened_by (net_of s.net) (is_in s.operable)
 
 -- the loads stay within capacity in the states that the set s leaves of `left`
-unfoldable pub fitting_in : Start → Switches → (left chain rating : List ℕ) → ℕ → Bool
-fitting_in start sw left chain rating s =
-    not (ltb (over_place (packed_grid start.net.elements start.net.links chain rating)
-    (closed_in (with_set (at sw.link) (at sw.closed) sw.count s left)) start.sound) start.net.elements)
+unfoldable pub fitting_in : Start → Switches → (left : List ℕ) → Walk → ℕ → Bool
+fitting_in start sw left walk s =
+    not (ltb (over_place (grid_of_walk walk) (closed_in (with_set (at sw.link) (at sw.closed) sw.count s left)) start.sound) walk.elements)
 
--- every switch is open in `left`, and the walk's arrays serve the states that any set leaves of it
-pub record Walked (n : Network) (sw : Switches) (left chain rating : List ℕ) : Type 0 where
+-- every switch is open in `left`, and the walk, over as many elements and links, serves the states that any set leaves of it
+pub record Walked (n : Network) (sw : Switches) (left : List ℕ) (walk : Walk) : Type 0 where
   pub long : length left ≡ 96
   pub opened : (i : ℕ) → i < sw.count → at left (at sw.link i) ≡ 0
-  pub lent : (s : ℕ) → PackedLent chain (with_set (at sw.link) (at sw.closed) sw.count s left) rating n.elements n.links
+  pub lent : (s : ℕ) → WalkLent walk (with_set (at sw.link) (at sw.closed) sw.count s left)
+  pub elements_are : walk.elements ≡ n.elements
+  pub links_are : walk.links ≡ n.links
 
 -- labels, holdings and numbers stand for the parts of the configuration whose operable switches are open
 pub record Founded (s : Start) (r : Origin) : Type 0 where

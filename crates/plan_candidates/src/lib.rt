@@ -2,22 +2,23 @@
 // source than it bears, tried in the set order: the search starts from the parts that stand while every operable switch is open.
 #![tactic(auto)]
 
-ghost use Rattle.std.specs.Prelude.{◌≡◌, ltb, length};
+ghost use Rattle.std.specs.Prelude.{◌≡◌, ltb};
 ghost use Rattle.feeding.specs.Networks.{at, is_in, net_of};
 ghost use Rattle.feeding.specs.Costs.{set_cost};
 ghost use Rattle.feeding_start.specs.Starting.{operable_in, Searchable};
 ghost use Rattle.plan_problem.specs.Sets.{keep, scan, set_in};
 ghost use Rattle.plan_switches.specs.Switches.{switch_list};
 ghost use Rattle.plan_stops.specs.Supply.{demand, supply};
-ghost use Rattle.plan_search.specs.Searching.{best_in};
 ghost use Rattle.plan_candidates.specs.Candidates.{asks_of, candidates_of, opened_in, fitting_in, Walked, Founded};
 
 use feeding_parts::parts_of;
 use feeding_sets::spread;
 use feeding_start::Start;
+use feeding_walks::Walk;
 use plan_holdings::{holdings, waiting_parts};
-use plan_search::seek;
-use plan_setting::{charged, packed_setting};
+use plan_problem::Best;
+use plan_search::Search;
+use plan_setting::Setting;
 use plan_supply::{demand_of, spare_of};
 use plan_switches::Switches;
 
@@ -42,10 +43,7 @@ pub fn falls_short(start: Start) -> bool
     let asked = demand_of(&restorable, &load, &capacity, start.net.elements);
     // A source that is loaded to its capacity asks what it bears.
     let borne = demand_of(&sound, &capacity, &capacity, start.net.elements);
-    if borne < asked {
-        return true;
-    }
-    false
+    borne < asked
 }
 
 // The parts where the links in `base` are closed.
@@ -79,50 +77,38 @@ fn origin_of<'a>(start: Start, base: &'a [u8; 96]) -> Origin
     }
 }
 
-// Each candidate in turn in the place of the best set so far, where it is cheaper and its loads stay within capacity. `base` has the links that are closed at
-// the start but no operable switch, and `left` those of them that walks go over.
+// The best set after each candidate in turn took the place of the best set so far, where it is cheaper and its loads stay within capacity. `base` has the links
+// that are closed at the start but no operable switch, and `left` those of them that walks go over.
 pub fn seek_candidates<'a>(
     start: Start,
     switches: Switches,
     base: &'a [u8; 96],
     left: &'a [u8; 96],
-    chain: &'a [u8; 448],
-    rating: &'a [u32; 128],
-    best: &mut [u64; 2],
-)
+    walk: Walk,
+    best: Best,
+) -> Best
     requires searchable { Searchable start }
     requires switches_value { switches ≡ switch_list start.net (operable_in start) }
     requires base_value { base.now ≡ opened_in start }
-    requires walked { Walked start.net switches left.now chain.now rating.now }
-    requires best_len { length best.old ≡ 2 }
-    ensures best_after { best_in best.new ≡ scan (keep (λ s. set_cost (net_of start.net) (set_in (operable_in start) s)) (fitting_in start switches left.now chain.now rating.now)) (candidates_of (net_of start.net) (is_in start.operable)) (best_in best.old) }
-    ensures best_len_2 { length best.new ≡ 2 }
+    requires walked { Walked start.net switches left.now walk }
+    ensures { result ≡ scan (keep (λ s. set_cost (net_of start.net) (set_in (operable_in start) s)) (fitting_in start switches left.now walk)) (candidates_of (net_of start.net) (is_in start.operable)) best }
 {
     let origin = origin_of(start, base);
-    let sound = start.sound;
-    let elements = start.net.elements;
-    let links = start.net.links;
-    let packed = packed_setting(switches, &sound, origin.waiting, elements, links);
     let guard = start.net.guard;
     let cost = start.net.cost;
-    let link = switches.link;
-    let fixed = charged(packed, &guard, &cost, links, &link, switches.count);
-    let mut states = *left;
-    let mut label = origin.label;
-    let mut holds = origin.holds;
-    let mut spare = origin.spare;
-    seek(
-        &fixed,
-        chain,
-        rating,
-        &mut states,
-        &mut label,
-        &mut holds,
-        &mut spare,
+    let sound = start.sound;
+    let setting = Setting::new(switches, &guard, &cost, &sound, origin.waiting, walk);
+    let states = *left;
+    let parent = origin.label;
+    let holds = origin.holds;
+    let spare = origin.spare;
+    let mut search = Search {
+        states,
+        parent,
+        holds,
+        spare,
         best,
-        0,
-        0,
-        0,
-        0,
-    )
+    };
+    search.seek(&setting, 0, 0, 0, 0);
+    search.best
 }

@@ -1,13 +1,13 @@
 -- The scan of the sets found gives the first cheapest of all that work: only candidates can, and states as numbers are their last configurations.
 -- Assumes nothing.
-use mathlib.Core.Path.{◌≡◌, refl, sym, ap, ap₂, ◌∙◌, subst}
+use mathlib.Core.Path.{◌≡◌, refl, sym, ap, ◌∙◌, subst}
 use mathlib.Core.Bool.{Bool, true, false, not, ◌&&◌, and-true, false≢true}
 use mathlib.Core.List.{List}
-use Prim.Native.Nat.{ℕ, ◌^◌, ◌<◌, ◌≤◌}
+use Prim.Native.Nat.{ℕ, ◌<◌, ◌≤◌, ◌^◌}
 use native.Mathlib.Omega.{arith}
+use native.Mathlib.Nat.{pow-le-pow_right}
 use lib.Dec.{ltb}
 use lib.ListN.{length}
-use native.Mathlib.Nat.{pow-le-pow_right}
 use borrow.Author.Tests.{not-true}
 use Rattle.network.specs.declared.Network.{Network}
 use Rattle.network.specs.Accepted.{WellFormed}
@@ -21,11 +21,11 @@ use Rattle.feeding.specs.Restoration.{operables_by}
 use Rattle.feeding.proofs.Below.{and_left, and_right}
 use Rattle.feeding.proofs.States.{over_same}
 use Rattle.feeding.proofs.Views.{formed_net}
-use Rattle.feeding_loads.proofs.Same.{head_length, next_length, far_length}
 use Rattle.feeding_safety.proofs.Networks.{checked}
 use Rattle.feeding_ends.specs.declared.OwnEnds.{OwnEnds}
 use Rattle.feeding_ends.specs.Ends.{own_ends}
-use Rattle.feeding_loads.specs.Walks.{walk_grid}
+use Rattle.feeding_loads.specs.Walks.{walk_grid, WalkLent}
+use Rattle.feeding_walks.specs.declared.Walk.{Walk}
 use Rattle.feeding_sets.specs.Sets.{but_not, members}
 use Rattle.feeding_safety.specs.Checks.{Checked}
 use Rattle.feeding_restoration.proofs.Reach.{bits_long}
@@ -33,13 +33,13 @@ use Rattle.feeding_restoration.proofs.Sets.{sound_is}
 use Rattle.feeding_start.specs.declared.Start.{Start}
 use Rattle.feeding_start.specs.Starting.{operable_in, Searchable}
 use Rattle.feeding_start.proofs.Starts.{operable_of, sound_of}
+use Rattle.plan_problem.proofs.Cheapest.{cheapest_below}
 use Rattle.plan_problem.specs.declared.Best.{Best}
 use Rattle.plan_stops.specs.Candidates.{radial?, passes?, candidate?, opened_by}
 use Rattle.plan_problem.specs.Choosing.{works?}
 use Rattle.plan_problem.specs.Sets.{sets_from, set_in, none, keep, scan, cheapest_by}
 use Rattle.plan_stops.proofs.Radial.{radial_out}
 use Rattle.plan_problem.proofs.Scans.{scan_tested, scan_ext}
-use Rattle.plan_problem.proofs.Cheapest.{cheapest_below}
 use Rattle.plan_switches.specs.declared.Switches.{Switches}
 use Rattle.plan_switches.specs.Switches.{SwitchReach, switch_list, with_set}
 use Rattle.plan_switches.proofs.States.{length_states, operable_in_lem, count_is, link_at, link_reach, states_flipped}
@@ -47,9 +47,7 @@ use Rattle.plan_stops.specs.Supply.{supplied?}
 use Rattle.plan_stops.proofs.Works.{supplied_works}
 use Rattle.plan_candidates.specs.Candidates.{asks_of, candidates_of, supplied_candidate?, opened_in, fitting_in, Walked}
 use Rattle.plan_candidates.proofs.Arrays.{opened_long, opened_at, opened_off, sources_at}
-use Rattle.feeding_walks.specs.Packing.{packed_ends, packed_rating, head_of, next_of, far_of, load_of, capacity_of}
 use Rattle.feeding_safety.proofs.Steps.{over_lowest_is}
-use Rattle.feeding_walks.proofs.Packed.{packed_head, packed_next, packed_far, packed_load, packed_capacity}
 use Rattle.plan_spurs.specs.declared.Lumped.{Lumped}
 use Rattle.plan_lumping.specs.Layers.{closable_in, closable_ends, lumped_layers}
 use Rattle.plan_spurs.proofs.Spur.{loaded}
@@ -58,13 +56,18 @@ use Rattle.plan_lumping.proofs.LayerByLayer.{layers_long}
 use Rattle.plan_lumping.proofs.Layers.{Layered, set_closable}
 
 -- what the calls return, before the scan
-pub record Gathered (st : Start) (sw : Switches) (base : List ℕ) (layers : ℕ) (lumped : Lumped) (chain rating : List ℕ) : Type 0 where
+pub record Gathered (st : Start) (sw : Switches) (base : List ℕ) (layers : ℕ) (lumped : Lumped) (walk : Walk) : Type 0 where
   pub switches_are : sw ≡ switch_list st.net (operable_in st)
   pub reach : SwitchReach sw.link sw.count
   pub base_is : base ≡ opened_in st
   pub lumped_is : lumped ≡ lumped_layers st.net sw.link sw.count st.sound (record { base = base; load = st.net.load }) layers
-  pub chain_is : chain ≡ packed_ends (closable_ends st.net.from st.net.to st.net.links sw.link sw.count lumped.base)
-  pub rating_is : rating ≡ packed_rating lumped.load st.net.capacity
+  pub walk_is : walk ≡ record {
+    own = closable_ends st.net.from st.net.to st.net.links sw.link sw.count lumped.base;
+    load = lumped.load;
+    capacity = st.net.capacity;
+    elements = st.net.elements;
+    links = st.net.links;
+  }
 
 -- how long the lists are with the spurs lumped
 pub lumped_long : (n : Network) → WellFormed n → (link sound base : List ℕ) (count layers : ℕ) (lumped : Lumped) → length base ≡ 96
@@ -93,24 +96,23 @@ module _ (st : Start) (ok : Searchable st) where
   unfolding opened_in
   based_on b = b
 
-  pub gathered : {sw : Switches} {base : List ℕ} {layers : ℕ} {lumped : Lumped} {chain rating : List ℕ}
+  pub gathered : {sw : Switches} {base : List ℕ} {layers : ℕ} {lumped : Lumped} {own : OwnEnds}
       → sw ≡ switch_list st.net (operable_in st) → base ≡ bits 96 st.net.links (but_not st.closed st.operable)
       → lumped ≡ lumped_layers st.net sw.link sw.count st.sound (record { base = base; load = st.net.load }) layers
-      → chain ≡ packed_ends (closable_ends st.net.from st.net.to st.net.links sw.link sw.count lumped.base)
-      → rating ≡ packed_rating lumped.load st.net.capacity
-      → Gathered st sw base layers lumped chain rating
-  gathered s b u a o =
+      → own ≡ closable_ends st.net.from st.net.to st.net.links sw.link sw.count lumped.base
+      → Gathered st sw base layers lumped
+      (record { own = own; load = lumped.load; capacity = st.net.capacity; elements = st.net.elements; links = st.net.links })
+  gathered {lumped = lumped} s b u a =
       record {
         switches_are = s;
         reach = switches_reach s;
         base_is = based_on b;
         lumped_is = u;
-        chain_is = a;
-        rating_is = o;
+        walk_is = ap (λ (x : OwnEnds). record { own = x; load = lumped.load; capacity = st.net.capacity; elements = st.net.elements; links = st.net.links }) a;
       }
 
-module _ (st : Start) (ok : Searchable st) {sw : Switches} {base : List ℕ} {layers : ℕ} {lumped : Lumped} {chain rating : List ℕ}
-    (g : Gathered st sw base layers lumped chain rating) where
+module _ (st : Start) (ok : Searchable st) {sw : Switches} {base : List ℕ} {layers : ℕ} {lumped : Lumped} {walk : Walk}
+    (g : Gathered st sw base layers lumped walk) where
   abbrev n : Network
   n = st.net
 
@@ -224,32 +226,18 @@ module _ (st : Start) (ok : Searchable st) {sw : Switches} {base : List ℕ} {la
   checked_after s = checked lighter lighter_formed (is_in closable) own (after s) refl (after_closable s)
       (length_states (at sw.link) (at sw.closed) sw.count s lumped.base ∙ layered.base_long)
 
-  -- the parts of the packed arrays
-  chain_own : chain ≡ packed_ends own
+  walk_own : walk ≡ record { own = own; load = lumped.load; capacity = n.capacity; elements = n.elements; links = n.links }
   unfolding closable_ends
-  chain_own = g.chain_is
-
-  head_is : head_of chain ≡ own.head
-  head_is = rw chain_own (packed_head own (head_length (at n.from) (at n.to) (is_in closable) n.links w.links_fit))
-
-  next_is : next_of chain ≡ own.next
-  next_is = rw chain_own (packed_next own (next_length (at n.from) (at n.to) (is_in closable) n.links w.links_fit))
-
-  far_is : far_of chain ≡ own.far
-  far_is = rw chain_own (packed_far own (far_length (at n.from) (at n.to) (is_in closable) n.links w.links_fit))
-
-  load_is : load_of rating ≡ lumped.load
-  load_is = rw g.rating_is (packed_load lumped.load n.capacity layered.load_long)
-
-  capacity_is : capacity_of rating ≡ n.capacity
-  capacity_is = rw g.rating_is (packed_capacity lumped.load n.capacity w.capacity_long)
+  walk_own = g.walk_is
 
   -- the theorem: what `seek_candidates` asks
-  pub walking : Walked n sw lumped.base chain rating
+  pub walking : Walked n sw lumped.base walk
   walking = record {
     long = layered.base_long;
     opened = opened;
-    lent = λ s. rw (head_is, next_is, far_is, load_is, capacity_is) (checked_after s).lent;
+    lent = λ s. subst (λ (v : Walk). WalkLent v (after s)) (sym walk_own) (checked_after s).lent;
+    elements_are = ap (λ (v : Walk). v.elements) g.walk_is;
+    links_are = ap (λ (v : Walk). v.links) g.walk_is;
   }
     where
       -- a switch is open in `base`, and lumping closes nothing
@@ -269,7 +257,7 @@ module _ (st : Start) (ok : Searchable st) {sw : Switches} {base : List ℕ} {la
           ∙ subst (λ (x : Switches). (i : ℕ) → i < x.count → at (opened_in st) (at x.link i) ≡ 0) (sym g.switches_are) in_list i b)
 
   abbrev fitting : ℕ → Bool
-  fitting = fitting_in st sw lumped.base chain rating
+  fitting = fitting_in st sw lumped.base walk
 
   -- where a set leaves no loop, the loads in its states are those of its last configuration
   fits_last : (s : ℕ) → candidate? (net_of n) (set_in (operable_in st) s) ≡ true
@@ -277,7 +265,7 @@ module _ (st : Start) (ok : Searchable st) {sw : Switches} {base : List ℕ} {la
   unfolding fitting_in walk_grid net_of grid_of passes? loaded
   fits_last s h =
       let radial = radial_out (net_of n).grid (formed_net n w) (last s) (and_left (radial? (net_of n).grid (last s)) _ h) in
-      rw (far_is, load_is, capacity_is) (ap (λ (x : ℕ). not (ltb x n.elements)) (over_lowest_is (checked_after s) sound (sound_of st _ ok.made ∙ sym (sound_is n w))))
+      rw walk_own (ap (λ (x : ℕ). not (ltb x n.elements)) (over_lowest_is (checked_after s) sound (sound_of st _ ok.made ∙ sym (sound_is n w))))
       ∙ ap (λ (x : ℕ). not (ltb x n.elements)) (layered.same s (last s) radial.bridges (λ l b q. sym (states_at s l b) ∙ q)
       ∙ over_same (net_of n).grid (formed_net n w) _ (last s) (states_at s))
 
@@ -295,18 +283,17 @@ module _ (st : Start) (ok : Searchable st) {sw : Switches} {base : List ℕ} {la
       go false t = rw t
 
   -- the theorem: the candidates tried in turn, from none on, give the first cheapest of all sets that work
-  pub cheapest_found : {best : Best} (cost set : ℕ)
-      → best ≡ scan (keep (λ s. set_cost (net_of n) (set_in (operable_in st) s)) (fitting_in st sw lumped.base chain rating)) (candidates_of (net_of n) op) (record { cost = cost; set = set })
-      → cost ≡ 18446744073709551615 → set ≡ 0 → best ≡ cheapest_by (operable_in st) (set_cost (net_of n)) (works? (net_of n))
-  unfolding candidates_of cheapest_by none
-  cheapest_found cost set e none-cost none-set =
+  pub cheapest_found : {best : Best}
+      → best ≡ scan (keep (λ s. set_cost (net_of n) (set_in (operable_in st) s)) (fitting_in st sw lumped.base walk)) (candidates_of (net_of n) op) none
+      → best ≡ cheapest_by (operable_in st) (set_cost (net_of n)) (works? (net_of n))
+  unfolding candidates_of cheapest_by
+  cheapest_found e =
       e
-      ∙ ap₂ (λ (c s : ℕ). scan (keep (λ s'. set_cost (net_of n) (set_in (operable_in st) s')) fitting) (candidates_of (net_of n) op) (record { cost = c; set = s })) none-cost none-set
       ∙ scan_tested (λ s. set_cost (net_of n) (set_in (operable_in st) s)) fitting (supplied_candidate? (net_of n) op) (sets_from (length (operable_in st)) 0) none
       ∙ scan_ext (λ s. set_cost (net_of n) (set_in (operable_in st) s)) _ _ _ (λ s. refl) fits_works (sets_from (length (operable_in st)) 0) none
 
-  -- its number is small
-  pub found_small : {best : Best} → best ≡ cheapest_by (operable_in st) (set_cost (net_of n)) (works? (net_of n)) → best.set < 65536
-  found_small e =
-      let top : 2 ^ length (operable_in st) ≤ 2 ^ 16 = pow-le-pow_right {n = 2} (omega arith) few in
-      omega (arith, ap (λ (b : Best). b.set) e, cheapest_below (operable_in st) (set_cost (net_of n)) (works? (net_of n)))
+-- the cheapest set's number is small
+pub found_small : (st : Start) → Searchable st → {best : Best} → best ≡ cheapest_by (operable_in st) (set_cost (net_of st.net)) (works? (net_of st.net)) → best.set < 65536
+found_small st ok e =
+    let top : 2 ^ length (operable_in st) ≤ 2 ^ 16 = pow-le-pow_right {n = 2} (omega arith) ok.few in
+    omega (arith, ap (λ (b : Best). b.set) e, cheapest_below (operable_in st) (set_cost (net_of st.net)) (works? (net_of st.net)))

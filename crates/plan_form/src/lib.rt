@@ -21,18 +21,13 @@ fn with_steps(
     ensures { result ≡ plan_with plan (sweep close (in_state operated.now closed.now state) links) }
 {
     let mut longer = plan;
-    let mut l: usize = 0;
-    while l < links {
-        if operated[l] == 1 {
-            if closed[l] == state {
-                let steps = longer.steps;
-                let i = steps as usize;
-                longer.link[i] = l as u16;
-                longer.close[i] = close;
-                longer.steps = steps + 1;
-            }
+    for l in 0..links {
+        if operated[l] == 1 && closed[l] == state {
+            let i = longer.steps as usize;
+            longer.link[i] = l as u16;
+            longer.close[i] = close;
+            longer.steps += 1;
         }
-        l += 1;
     }
     longer
 }

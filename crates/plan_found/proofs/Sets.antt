@@ -8,6 +8,7 @@ use native.Mathlib.Omega.{arith}
 use lib.Dec.{eqb}
 use lib.ListN.{length, replicate, length-replicate}
 use borrow.Author.Tests.{eqb-true, lt-ltb}
+use Rattle.std.specs.Prelude.{Option, Some, None}
 use Rattle.network.specs.declared.Network.{Network}
 use Rattle.network.specs.Accepted.{WellFormed}
 use Rattle.feeding.specs.Below.{gate}
@@ -27,7 +28,7 @@ use Rattle.feeding_start.proofs.Starts.{closed_of}
 use Rattle.file_plan.specs.declared.plan.Plan.{Plan}
 use Rattle.file_plan.specs.PlanFiles.{empty_plan}
 use Rattle.plan_problem.specs.declared.Best.{Best}
-use Rattle.plan_problem.specs.Choosing.{works?, by, printed_plan, restored_over}
+use Rattle.plan_problem.specs.Choosing.{works?, printed_plan, restored_over}
 use Rattle.plan_problem.specs.Sets.{set_of, set_in, cheapest_by}
 use Rattle.plan_problem.proofs.Found.{costs_below, planned_found, planned_nothing, found_cost}
 use Rattle.plan_problem.proofs.Rising.{at_member}
@@ -37,7 +38,7 @@ use Rattle.plan_switches.specs.declared.Switches.{Switches}
 use Rattle.plan_switches.specs.Switches.{switch_list, with_set}
 use Rattle.plan_switches.proofs.States.{length_states, states_flipped, set_operated}
 use Rattle.plan_found.specs.declared.Found.{Found}
-use Rattle.plan_found.specs.Finding.{cost_found, plan_found, last_found, FoundBy}
+use Rattle.plan_found.specs.Finding.{FoundPlan, FoundBy}
 
 -- ---- the set that a number writes has links of the network only
 
@@ -104,11 +105,9 @@ module _ (st : Start) (ok : Searchable st) {sw : Switches} (sw-is : sw ≡ switc
         ∙ form_printed (net_of n) D operated st.closed (λ l k. in_set l (omega (arith, links_are))) bit_at
 
     pub set_plan : (cost : ℕ) (plan : Plan) → cost ≡ set_cost (net_of n) D → plan ≡ plan_with empty_plan (form_of operated st.closed n.links)
-        → FoundBy n (cost_of (net_of n)) (by (printed_form (net_of n) D)) (record { cost = cost; plan = plan; closed = states })
-    unfolding cost_found plan_found last_found
+        → FoundPlan n (cost_of (net_of n)) (printed_form (net_of n) D) (record { cost = cost; plan = plan; closed = states })
     set_plan cost plan c p = record {
       cost = c ∙ sym (cost_printed (net_of n) D inside);
-      told = omega (arith, c, costs_below n w D);
       plan = p ∙ ap (plan_with empty_plan) form;
       closed = λ l k. in_states l k ∙ ap (λ (x : ℕ → Bool). x l) (sym (printed_run (net_of n) D inside));
     }
@@ -120,19 +119,17 @@ module _ (st : Start) (ok : Searchable st) (best : Best) (is : best ≡ cheapest
   own_cost = found_cost (operable_in st) (set_cost (net_of st.net)) (costs_below st.net ok.formed) (works? (net_of st.net)) best is
 
   pub plan_found_lem : (f : Found) → best.cost < 18446744073709551615
-      → FoundBy st.net (cost_of (net_of st.net)) (by (printed_form (net_of st.net) (set_in (operable_in st) best.set))) f
-      → FoundBy st.net (cost_of (net_of st.net)) (printed_plan (net_of st.net) (restored_over (net_of st.net) (operable_in st))) f
+      → FoundPlan st.net (cost_of (net_of st.net)) (printed_form (net_of st.net) (set_in (operable_in st) best.set)) f
+      → FoundBy st.net (cost_of (net_of st.net)) (printed_plan (net_of st.net) (restored_over (net_of st.net) (operable_in st))) (Some f)
   unfolding printed_plan
   plan_found_lem f h kept =
-      rw (planned_found (operable_in st) (set_cost (net_of st.net)) (costs_below st.net ok.formed) (works? (net_of st.net)) best is h) kept
+      rw (planned_found (operable_in st) (set_cost (net_of st.net)) (costs_below st.net ok.formed) (works? (net_of st.net)) best is h) (f, (refl, kept))
 
-  pub none_found : (plan : Plan) → 18446744073709551615 ≤ best.cost → plan ≡ empty_plan
-      → FoundBy st.net (cost_of (net_of st.net)) (printed_plan (net_of st.net) (restored_over (net_of st.net) (operable_in st)))
-      (record { cost = 18446744073709551615; plan = plan; closed = st.closed })
-  unfolding printed_plan cost_found plan_found last_found
-  none_found plan h p =
-      rw (planned_nothing (operable_in st) (set_cost (net_of st.net)) (costs_below st.net ok.formed) (works? (net_of st.net)) best is h)
-      (record { cost = refl; told = tt; plan = p; closed = set_at st.net ok.formed st.net.links _ st.closed ok.formed.links_fit (closed_of st _ ok.made) })
+  pub none_found : (r : Option Found) → r ≡ None → 18446744073709551615 ≤ best.cost
+      → FoundBy st.net (cost_of (net_of st.net)) (printed_plan (net_of st.net) (restored_over (net_of st.net) (operable_in st))) r
+  unfolding printed_plan
+  none_found r e h =
+      rw (planned_nothing (operable_in st) (set_cost (net_of st.net)) (costs_below st.net ok.formed) (works? (net_of st.net)) best is h) e
 
 -- what `printed_plan` asks of the set's array
 pub operated_long : (link closed : ℕ → ℕ) (count s : ℕ) {operated : List ℕ} → operated ≡ with_set link closed count s (replicate 96 0) → length operated ≡ 96

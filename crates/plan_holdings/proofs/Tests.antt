@@ -1,10 +1,11 @@
--- What each test on the parts tells of `clash`, `serves` and `together`, and what one turn of the loops adds: the definitions by their cases.
+-- What tests that are asked in turn say together, and what one turn of the loops adds: by cases.
 -- Assumes nothing.
-use Prim.Native.Nat.{ℕ, ◌+◌, ◌<◌}
-use mathlib.Core.Path.{◌≡◌, refl, ◌∙◌}
-use mathlib.Core.Bool.{Bool, true, false, not, ◌&&◌, ◌||◌}
+use Prim.Native.Nat.{ℕ, ◌+◌, ◌*◌, ◌<◌}
+use mathlib.Core.Path.{◌≡◌, refl, sym, ◌∙◌}
+use mathlib.Core.Bool.{Bool, true, false, ◌&&◌, ◌||◌}
 use mathlib.Core.List.{List}
 use lib.Dec.{eqb}
+use mir.Val.{bool_byte}
 use lib.ListN.{length, set, length-set}
 use lib.Seq.{get_or-set_same, get_or-set_other}
 use borrow.Author.Tests.{eq-eqb, ne_eqb, eqb-true, eqb-false}
@@ -14,76 +15,44 @@ use Rattle.feeding.specs.Below.{gate, sum_to}
 use Rattle.feeding.specs.Networks.{at, is_in}
 use Rattle.feeding.proofs.Lows.{table_ext}
 use Rattle.feeding.proofs.Sums.{sum_to_more}
-use Rattle.plan_stops.specs.Holding.{holding, has_source, has_fault, has_need, waits_for, clash, together, serves}
+use Rattle.plan_stops.specs.Holding.{holding, has_source, has_fault, has_need, waits_for, together}
 use Rattle.plan_holdings.specs.Holdings.{waiting_at, holdings_of}
 
--- ---- a part that waits
+-- ---- tests in turn: the second is asked only where the first does not decide
 
-pub waits_not : (h : ℕ) → has_source h ≡ true → false ≡ waits_for h
-waits_not h s = go (has_need h) (has_source h) s
-  where
-    go : (n t : Bool) → t ≡ true → false ≡ (n && not t)
-    go true t e = rw e
-    go false t e = refl
+pub or_first : {r a : Bool} (b : Bool) → r ≡ a → r ≡ true → r ≡ (a || b)
+or_first b e t = t ∙ rw (sym e ∙ t) refl
 
-pub waits_need : (h : ℕ) (r : Bool) → has_source h ≡ false → r ≡ has_need h → r ≡ waits_for h
-waits_need h r s e = e ∙ go (has_need h) (has_source h) s
-  where
-    go : (n t : Bool) → t ≡ false → n ≡ (n && not t)
-    go true t e = rw e
-    go false t e = refl
+pub or_second : {r s a b : Bool} → s ≡ a → s ≡ false → r ≡ b → r ≡ (a || b)
+or_second e t f = rw (sym e ∙ t) f
 
--- ---- two parts
+pub and_first : {r a : Bool} (b : Bool) → r ≡ a → r ≡ false → r ≡ (a && b)
+and_first b e t = t ∙ rw (sym e ∙ t) refl
 
-module _ (x y : ℕ) where
-  pub clash_sources : has_source x ≡ true → has_source y ≡ true → true ≡ clash x y
-  unfolding clash
-  clash_sources p q = rw (p, q)
+pub and_second : {r s a b : Bool} → s ≡ a → s ≡ true → r ≡ b → r ≡ (a && b)
+and_second e t f = rw (sym e ∙ t) f
 
-  pub clash_second : (r : Bool) → has_source x ≡ true → has_source y ≡ false → r ≡ has_fault y → r ≡ clash x y
-  unfolding clash
-  clash_second r p q e = rw (p, q) (e ∙ go (has_fault y))
-    where
-      go : (b : Bool) → b ≡ (b || false)
-      go true = refl
-      go false = refl
+-- ---- tests as numbers
 
-  pub clash_first : (r : Bool) → has_source x ≡ false → has_source y ≡ true → r ≡ has_fault x → r ≡ clash x y
-  unfolding clash
-  clash_first r p q e = rw (p, q) e
+pub gate_one : (t : Bool) → bool_byte t ≡ gate t 1
+gate_one true = refl
+gate_one false = refl
 
-  pub clash_none : has_source x ≡ false → has_source y ≡ false → false ≡ clash x y
-  unfolding clash
-  clash_none p q = rw (p, q)
+pub held_sum : (s f n : Bool) → bool_byte s + 2 * bool_byte f + 4 * bool_byte n ≡ holding s f n
+unfolding holding
+held_sum true true true = refl
+held_sum true true false = refl
+held_sum true false true = refl
+held_sum true false false = refl
+held_sum false true true = refl
+held_sum false true false = refl
+held_sum false false true = refl
+held_sum false false false = refl
 
-  pub held_both : (s f n : Bool) → s ≡ (has_source x || has_source y) → f ≡ (has_fault x || has_fault y) → n ≡ (has_need x || has_need y)
-      → holding s f n ≡ together x y
-  unfolding together
-  held_both s f n p q r = rw (p, q, r)
-
-  pub serves_both : waits_for x ≡ true → waits_for y ≡ true → 1 ≡ gate (serves x y) 1
-  unfolding serves
-  serves_both p q = rw (p, q)
-
-  pub serves_second : waits_for x ≡ true → waits_for y ≡ false → has_source y ≡ true → 1 ≡ gate (serves x y) 1
-  unfolding serves
-  serves_second p q s = rw (p, q, s)
-
-  pub serves_alone : waits_for x ≡ true → waits_for y ≡ false → has_source y ≡ false → 0 ≡ gate (serves x y) 1
-  unfolding serves
-  serves_alone p q s = rw (p, q, s)
-
-  pub serves_first : waits_for x ≡ false → waits_for y ≡ true → has_source x ≡ true → 1 ≡ gate (serves x y) 1
-  unfolding serves
-  serves_first p q s = rw (p, q, s)
-
-  pub serves_other : waits_for x ≡ false → waits_for y ≡ true → has_source x ≡ false → 0 ≡ gate (serves x y) 1
-  unfolding serves
-  serves_other p q s = rw (p, q, s)
-
-  pub serves_none : waits_for x ≡ false → waits_for y ≡ false → 0 ≡ gate (serves x y) 1
-  unfolding serves
-  serves_none p q = rw (p, q)
+pub held_both : (x y : ℕ) (s f n : Bool) → s ≡ (has_source x || has_source y) → f ≡ (has_fault x || has_fault y) → n ≡ (has_need x || has_need y)
+    → holding s f n ≡ together x y
+unfolding together
+held_both x y s f n p q r = rw (p, q, r)
 
 -- ---- the elements in turn
 

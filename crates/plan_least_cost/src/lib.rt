@@ -7,41 +7,26 @@ ghost use Rattle.plan_least_cost.specs.LeastCost.{CheapestIn, CheapestFor};
 
 use feeding_acceptance::read_accepted;
 use feeding_start::Start;
-use network::refusal::{Answer, Refusal};
+use network::refusal::Refusal;
 use plan_cheapest::cheapest_set;
-use plan_problem::Best;
 use plan_switches::switches_of;
 
-#[derive(Clone, Copy)]
-pub enum Cheapest {
-    Cost(u64),
-    NoPlan,
-    Refused(Refusal),
-}
-
-// What the cheapest valid plan of an accepted network costs.
-pub fn cheapest_cost(start: Start) -> Cheapest
+// What the cheapest valid plan of an accepted network costs, where it has one.
+pub fn cheapest_cost(start: Start) -> Option<u64>
     requires { Begun start }
     ensures { CheapestIn (net_of start.net) result }
 {
     let net = start.net;
     let operable = start.operable;
     let switches = switches_of(net, &operable);
-    let best = cheapest_set(start, switches);
-    if best.cost < Best::NO_SET {
-        return Cheapest::Cost(best.cost);
-    }
-    Cheapest::NoPlan
+    let best = cheapest_set(start, switches)?;
+    Some(best.cost)
 }
 
 // What the cheapest valid plan of the network in a file costs.
-pub fn cheapest_in(s: &[u8]) -> Cheapest
+pub fn cheapest_in(s: &[u8]) -> Result<Option<u64>, Refusal>
     ensures { CheapestFor s.now result }
 {
-    let read = read_accepted(s);
-    let verdict = read.answer;
-    match verdict {
-        Answer::Accepted => cheapest_cost(read.start),
-        Answer::Refused(refusal) => Cheapest::Refused(refusal),
-    }
+    let start = read_accepted(s)?;
+    Ok(cheapest_cost(start))
 }

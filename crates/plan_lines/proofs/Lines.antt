@@ -14,7 +14,7 @@ use Rattle.plan_sums.specs.declared.Sums.{Sums}
 use Rattle.texts.specs.Texts.{field, signed_field, feed, in_front}
 use Rattle.texts.proofs.Pieces.{Put, put_behind, field_16, field_64, put_front}
 use Rattle.feeding_margins.specs.declared.Spot.{Spot}
-use Rattle.feeding_margins.specs.declared.Spot.TheVariants.{Nowhere, At}
+use Rattle.std.specs.Prelude.{Option, Some, None}
 use Rattle.plan_lines.specs.Lines.{none_word, step_word, margin_word, none_mark, margin_line}
 use Rattle.plan_lines.specs.Lines.{step_line, step_lines, plan_line, load_line}
 use Rattle.plan_lines.specs.Lines.{text_of, reply_text, tail_lines, tail_room, plan_lines, none_lines}
@@ -67,24 +67,24 @@ load_length s f d l = simp length-append (omega (arith, field_64 s.fed f, field_
 -- ---- the line of the margin
 
 pub margin_at_lem :
-    (l l₁ l₂ l₃ l₄ : List ℕ) (at i j k n x e : ℕ) (m z : ℤ) (spot : Spot) →
-    spot ≡ At e z →
+    (l l₁ l₂ l₃ l₄ : List ℕ) (at i j k n x : ℕ) (m : ℤ) (spot : Option Spot) (s : Spot) →
+    spot ≡ Some s →
     Put l at l₁ i margin_word →
     Put l₁ i l₂ j (field x) →
     Put l₂ j l₃ k (signed_field m) →
     Put l₃ k l₄ n feed →
-    x ≡ e →
-    m ≡ z →
+    x ≡ s.element →
+    m ≡ s.margin →
     Put l at l₄ n (margin_line spot)
 unfolding margin_line
-margin_at_lem l l₁ l₂ l₃ l₄ at i j k n x e m z spot is word first second end q q' =
-    let two = put_behind l l₁ l₂ at i j margin_word (field e) word (rw q at first) in
-    let three = put_behind l l₂ l₃ at j k (margin_word ++ field e) (signed_field z) two (rw q' at second) in
-    rw is (put_behind l l₃ l₄ at k n (margin_word ++ field e ++ signed_field z) feed three end)
+margin_at_lem l l₁ l₂ l₃ l₄ at i j k n x m spot s is word first second end q q' =
+    let two = put_behind l l₁ l₂ at i j margin_word (field s.element) word (rw q at first) in
+    let three = put_behind l l₂ l₃ at j k (margin_word ++ field s.element) (signed_field s.margin) two (rw q' at second) in
+    rw is (put_behind l l₃ l₄ at k n (margin_word ++ field s.element ++ signed_field s.margin) feed three end)
 
 pub margin_none :
-    (l l₁ l₂ l₃ : List ℕ) (at i j k : ℕ) (spot : Spot) →
-    spot ≡ Nowhere →
+    (l l₁ l₂ l₃ : List ℕ) (at i j k : ℕ) (spot : Option Spot) →
+    spot ≡ None →
     Put l at l₁ i margin_word →
     Put l₁ i l₂ j none_mark →
     Put l₂ j l₃ k feed →

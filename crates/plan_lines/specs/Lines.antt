@@ -1,10 +1,9 @@
 -- Document 01, "Printed lines" of the planner; the line of a refusal is in `texts`.
 -- Assumes nothing.
-use Rattle.std.specs.Prelude.{Bool, true, false, ℕ, zero, suc, get_or}
+use Rattle.std.specs.Prelude.{Bool, true, false, ℕ, zero, suc, get_or, Option, Some, None}
 use mathlib.Core.List.{List, [], ◌∷◌, ◌++◌, foldr}
 use Rattle.texts.specs.Texts.{field, signed_field, feed, line_of}
 use Rattle.feeding_margins.specs.declared.Spot.{Spot}
-use Rattle.feeding_margins.specs.declared.Spot.TheVariants.{Nowhere, At}
 use Rattle.file_plan.specs.declared.plan.Plan.{Plan}
 use Rattle.plan_sums.specs.declared.Sums.{Sums}
 
@@ -47,9 +46,9 @@ unfoldable pub load_line : Sums → List ℕ
 load_line s = load_word ++ field s.fed ++ field s.dark ++ field s.lost ++ feed
 
 -- "MARGIN element number for the live element with the least margin .., or MARGIN - if none is live"
-unfoldable pub margin_line : Spot → List ℕ
-margin_line (At e m) = margin_word ++ field e ++ signed_field m ++ feed
-margin_line Nowhere = margin_word ++ none_mark ++ feed
+unfoldable pub margin_line : Option Spot → List ℕ
+margin_line (Some spot) = margin_word ++ field spot.element ++ signed_field spot.margin ++ feed
+margin_line None = margin_word ++ none_mark ++ feed
 
 -- ---- the lines of a reply
 

@@ -43,14 +43,9 @@ fn put_steps(out: &mut [u8], at: usize, plan: Plan) -> usize
     ensures value { result ≡ at + length (step_lines plan plan.steps) }
     ensures out_after { out.new ≡ sets out.old at (step_lines plan plan.steps) }
 {
-    let count = plan.steps as usize;
     let mut next = at;
-    let mut i: usize = 0;
-    while i < count {
-        let link = plan.link[i];
-        let close = plan.close[i];
-        next = put_step(out, next, link, close);
-        i += 1;
+    for i in 0..plan.steps as usize {
+        next = put_step(out, next, plan.link[i], plan.close[i]);
     }
     next
 }
@@ -69,7 +64,7 @@ fn put_load(out: &mut [u8], at: usize, sums: Sums) -> usize
 }
 
 // `MARGIN element number`, or `MARGIN -`.
-fn put_margin(out: &mut [u8], at: usize, spot: Spot) -> usize
+fn put_margin(out: &mut [u8], at: usize, spot: Option<Spot>) -> usize
     requires { at + 50 ≤ length out.old }
     ensures upper_bound { result ≤ at + 50 }
     ensures value { result ≡ at + length (margin_line spot) }
@@ -77,13 +72,13 @@ fn put_margin(out: &mut [u8], at: usize, spot: Spot) -> usize
 {
     let word = put_text(out, at, b"MARGIN");
     match spot {
-        Spot::Nowhere => {
+        None => {
             let mark = put_text(out, word, b" -");
             return put_feed(out, mark);
         }
-        Spot::At(e, m) => {
-            let first = put_field(out, word, e as u64);
-            let second = put_signed(out, first, m);
+        Some(tightest) => {
+            let first = put_field(out, word, tightest.element as u64);
+            let second = put_signed(out, first, tightest.margin);
             return put_feed(out, second);
         }
     }

@@ -59,17 +59,13 @@ pub fn lump_layers<'a>(
     requires switch_reach { SwitchReach link.now count × (length base ≡ 96) }
     ensures { result ≡ lumped_layers net link.now count sound.now (record { base = base; load = net.load }) layers }
 {
-    let from = net.from;
-    let to = net.to;
-    let capacity = net.capacity;
-    let load = net.load;
-    let mut lumped = Lumped { base, load };
-    let mut i: usize = 0;
-    while i < layers {
-        let left = lumped.base;
-        let own = closable_ends(&from, &to, net.links, left, link, count);
-        lumped = lump_spurs(own, sound, &capacity, lumped, net.elements);
-        i += 1;
+    let mut lumped = Lumped {
+        base,
+        load: net.load,
+    };
+    for _i in 0..layers {
+        let own = closable_ends(&net.from, &net.to, net.links, lumped.base, link, count);
+        lumped = lump_spurs(own, sound, &net.capacity, lumped, net.elements);
     }
     lumped
 }

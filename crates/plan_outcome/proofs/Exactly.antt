@@ -8,8 +8,8 @@ use native.Mathlib.Omega.{arith}
 use lib.ListN.{take}
 use Rattle.network.specs.declared.Network.{Network}
 use Rattle.network.specs.declared.refusal.Refusal.{Refusal}
-use Rattle.network.specs.declared.refusal.Answer.TheVariants as Answer·
-use Rattle.feeding_acceptance.specs.declared.Admitted.{Admitted}
+use Rattle.std.specs.Prelude.{Result}
+use Rattle.feeding_start.specs.declared.Start.{Start}
 use Rattle.file_network.specs.Deciding.{decides}
 use Rattle.file_network.specs.Inputs.{network_read}
 use Rattle.file_network.proofs.NetworkAlike.{network_decided}
@@ -20,7 +20,6 @@ use Rattle.feeding.specs.Costs.{cost_of}
 use Rattle.feeding_acceptance.specs.Reading.{accepted_read, Bytes, AcceptedNetwork, FirstRule}
 use Rattle.feeding_acceptance.proofs.Promises as Admissions
 use Rattle.feeding_acceptance.proofs.Promises.{admission_only, network_once, accepted_unrefused}
-use Rattle.feeding_start.specs.Starting.{start_with}
 use Rattle.plan_problem.specs.Choosing.{Promised, NoPlan}
 use Rattle.plan_problem.proofs.Preferring.{first_same}
 use Rattle.plan_form.specs.Printing.{steps_of}
@@ -28,7 +27,7 @@ use Rattle.plan_sums.specs.declared.Sums.{Sums}
 use Rattle.plan_outcome.specs.declared.Planned.{Planned}
 use Rattle.plan_outcome.specs.declared.Reply.{Reply}
 use Rattle.plan_outcome.specs.declared.Reply.TheVariants as Reply·
-use Rattle.plan_outcome.specs.Outcomes.{outcome_read, outcome_answered, outcome, outcome_by}
+use Rattle.plan_outcome.specs.Outcomes.{outcome_read, outcome, outcome_by}
 use Rattle.plan_outcome.proofs.Promises.{outcome_kept}
 
 -- ---- exactly which outcome
@@ -62,9 +61,9 @@ module _ (s : List ℕ) (bytes : Bytes s) where
 
   -- demand 1: what breaks a rule is refused by its first broken rule, with its place, and nothing else is refused
   pub refused_exactly : (f : Refusal) → (FirstRule s f → (outcome s).reply ≡ Reply·.Refused f) × ((outcome s).reply ≡ Reply·.Refused f → FirstRule s f)
-  unfolding outcome_by outcome_read outcome_answered start_with
+  unfolding outcome_by outcome_read
   refused_exactly f = (
-    λ r. ap (λ (x : Admitted). (outcome_read x).reply) (sym (admission_only s bytes _ (Admissions.refused r))),
+    λ r. ap (λ (x : Result Start Refusal). (outcome_read x).reply) (sym (admission_only s bytes _ (Admissions.refused r))),
     λ e. (outcome_kept s bytes).refused f e,
   )
 

@@ -10,7 +10,8 @@ use Rattle.network.specs.declared.Network.{Network}
 use Rattle.network.specs.declared.refusal.Refusal.{Refusal}
 use Rattle.network.specs.Accepted.{WellFormed}
 use Rattle.file_network.specs.Inputs.{network_input, network_read}
-use Rattle.feeding_acceptance.specs.declared.Admitted.{Admitted}
+use Rattle.feeding_start.specs.declared.Start.{Start}
+use Rattle.std.specs.Prelude.{Result}
 use Rattle.feeding.specs.Acceptance.{Starts}
 use Rattle.feeding.specs.Networks.{net_of, grid_of}
 use Rattle.feeding.specs.Plans.{Step, printed_form, run}
@@ -35,7 +36,7 @@ use Rattle.plan_sums.proofs.Loads.{sums_in}
 use Rattle.plan_outcome.specs.declared.Planned.{Planned}
 use Rattle.plan_outcome.specs.declared.Reply.{Reply}
 use Rattle.plan_outcome.specs.declared.Reply.TheVariants as Reply·
-use Rattle.plan_outcome.specs.Outcomes.{outcome_with, outcome_without, outcome_from, outcome_for, outcome_of, outcome_answered, outcome_read, outcome, outcome_by}
+use Rattle.plan_outcome.specs.Outcomes.{outcome_with, outcome_without, outcome_from, outcome_for, outcome_of, outcome_read, outcome, outcome_by}
 use Rattle.plan_outcome.specs.declared.Outcome.{Outcome}
 
 -- ---- what an outcome promises, in the paper's terms: the cases of the replies that `planner` promises
@@ -160,8 +161,8 @@ module _ (n : Network) (well : WellFormed n) (starts : Starts (net_of n)) where
 -- ---- the outcome of any bytes
 
 module _ (s : List ℕ) (bytes : Bytes s) where
-  read_kept : (r : Admitted) → Admits s r → OutcomeKept s (outcome_read r)
-  unfolding outcome_read outcome_answered start_with
+  read_kept : (r : Result Start Refusal) → Admits s r → OutcomeKept s (outcome_read r)
+  unfolding outcome_read start_with
   read_kept _ (Admissions.refused {f = f} b) = refused_outcome s f empty_plan b
   read_kept _ (Admissions.accepted n a) =
       let starts = network_starts s bytes n a in

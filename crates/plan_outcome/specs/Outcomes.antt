@@ -1,19 +1,17 @@
 -- Document 01, what any sequence of bytes is answered: the plan with its cost and the loads after it, none, or a refusal.
 -- Internal: what computes; `PlannerReply` and `LibraryReply` of `planner` say which answers the paper asks for.
 -- Assumes nothing.
-use Rattle.std.specs.Prelude.{Bool, true, false, List, ℕ, ltb, length}
+use Rattle.std.specs.Prelude.{Bool, List, ℕ, length, Option, Some, None, Result, Ok, Err}
 use Rattle.network.specs.declared.Network.{Network}
-use Rattle.network.specs.declared.refusal.Answer.{Answer}
-use Rattle.network.specs.declared.refusal.Answer.TheVariants as Answer·
+use Rattle.network.specs.declared.refusal.Refusal.{Refusal}
 use Rattle.file_stages.specs.Stages.{every_kind}
 use Rattle.file_network.specs.Inputs.{network_input_by, network_read}
-use Rattle.feeding.specs.Networks.{Net, net_of}
+use Rattle.feeding.specs.Networks.{net_of}
 use Rattle.feeding.specs.Parts.{closed_in}
 use Rattle.feeding.specs.Plans.{Step, run}
 use Rattle.feeding.specs.Tasks.{Task, restoration}
-use Rattle.feeding_acceptance.specs.declared.Admitted.{Admitted}
+use Rattle.feeding_start.specs.declared.Start.{Start}
 use Rattle.feeding_acceptance.specs.Reading.{accepted_read}
-use Rattle.file_plan.specs.declared.plan.Plan.{Plan}
 use Rattle.file_plan.specs.PlanFiles.{empty_plan}
 use Rattle.plan_problem.specs.Choosing.{Planning, unplanned, by, planned_by, printed_plan}
 use Rattle.plan_found.specs.declared.Found.{Found}
@@ -47,22 +45,18 @@ abbrev pub outcome_of : Network → Outcome
 outcome_of n = outcome_for n (restoration (net_of n))
 
 -- the same from the arrays of what was found
-unfoldable pub outcome_given : Net → Found → Outcome
-outcome_given net f = elim (ltb f.cost 18446744073709551615) [
-  | true ↦ record {
-    reply = Reply·.Plan (record { steps = f.plan.steps; cost = f.cost; sums = sums_after net (closed_in f.closed) });
-    plan = f.plan;
-  }
-  | false ↦ record { reply = Reply·.NoPlan (sums_after net (closed_in f.closed)); plan = f.plan }
-]
+unfoldable pub outcome_given : Network → Option Found → Outcome
+outcome_given n (Some f) =
+    record {
+      reply = Reply·.Plan (record { steps = f.plan.steps; cost = f.cost; sums = sums_after (net_of n) (closed_in f.closed) });
+      plan = f.plan;
+    }
+outcome_given n None = outcome_without n
 
 -- "A refusal hands out no plan"
-unfoldable pub outcome_answered : Network → Answer → Outcome
-outcome_answered n Answer·.Accepted = outcome_of n
-outcome_answered n (Answer·.Refused f) = record { reply = Reply·.Refused f; plan = empty_plan }
-
-unfoldable pub outcome_read : Admitted → Outcome
-outcome_read r = outcome_answered r.start.net r.answer
+unfoldable pub outcome_read : Result Start Refusal → Outcome
+outcome_read (Ok start) = outcome_of start.net
+outcome_read (Err f) = record { reply = Reply·.Refused f; plan = empty_plan }
 
 -- what the bytes s are answered, by the kinds that are known, and where every kind is
 unfoldable pub outcome_by : (ℕ → Bool) → List ℕ → Outcome

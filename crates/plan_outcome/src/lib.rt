@@ -2,7 +2,6 @@
 #![tactic(auto)]
 
 ghost use Rattle.std.specs.Prelude.{◌≡◌};
-ghost use Rattle.feeding.specs.Networks.{net_of};
 ghost use Rattle.feeding_start.specs.Starting.{Begun};
 ghost use Rattle.plan_outcome.specs.Outcomes.{outcome_given};
 
@@ -21,6 +20,7 @@ pub struct Planned {
 }
 
 // The reply to a network file. Loads are those after the plan, or at the start where there is none.
+// An enum of its own and no Result: the C interface numbers these three.
 #[derive(Clone, Copy)]
 pub enum Reply {
     Plan(Planned),
@@ -28,31 +28,39 @@ pub enum Reply {
     Refused(Refusal),
 }
 
-// A reply with its plan; the empty plan where there is none.
+// A reply with its plan; the empty plan where there is none. It stays beside the reply: the theorems in `plan_outcome`,
+// `planner` and `theorems` speak of both by `outcome`.
 #[derive(Clone, Copy)]
 pub struct Outcome {
     pub reply: Reply,
     pub plan: Plan,
 }
 
-// The outcome for an accepted network, from what was found: the loads are those of the states that were left.
-pub fn outcome_of(start: Start, found: Found) -> Outcome
+// The outcome for an accepted network, from what was found: the loads are those of the states that were left, or those at the start.
+pub fn outcome_of(start: Start, found: Option<Found>) -> Outcome
     requires { Begun start }
-    ensures { result ≡ outcome_given (net_of start.net) found }
+    ensures { result ≡ outcome_given start.net found }
 {
-    let closed = found.closed;
-    let sums = sums_after(start, &closed);
-    let plan = found.plan;
-    let cost = found.cost;
-    if cost < Found::NO_PLAN {
-        let steps = plan.steps as usize;
-        return Outcome {
-            reply: Reply::Plan(Planned { steps, cost, sums }),
-            plan,
-        };
-    }
-    Outcome {
-        reply: Reply::NoPlan(sums),
-        plan,
+    match found {
+        Some(f) => {
+            let closed = f.closed;
+            let plan = f.plan;
+            let cost = f.cost;
+            let steps = plan.steps as usize;
+            let sums = sums_after(start, &closed);
+            Outcome {
+                reply: Reply::Plan(Planned { steps, cost, sums }),
+                plan,
+            }
+        }
+        None => {
+            let closed = start.closed;
+            let sums = sums_after(start, &closed);
+            let plan = Plan::empty();
+            Outcome {
+                reply: Reply::NoPlan(sums),
+                plan,
+            }
+        }
     }
 }

@@ -5,10 +5,10 @@
 #[derive(Clone, Copy)]
 pub struct Best {
     pub cost: u64,
-    pub set: u32,
+    pub set: u64,
 }
 
 impl Best {
-    // The cost that says that no set was found, above that of any set.
+    // The bound from which a search starts, above the cost of any set; `cheapest_set` tells by an option whether a set was found.
     pub const NO_SET: u64 = 18446744073709551615;
 }

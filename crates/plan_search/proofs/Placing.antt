@@ -14,13 +14,14 @@ use Rattle.feeding.specs.Below.{all_to}
 use Rattle.feeding.specs.Networks.{at}
 use Rattle.feeding.specs.Plans.{differ}
 use Rattle.feeding.proofs.Below.{all_to_out}
-use Rattle.feeding_walks.specs.Packing.{PackedLent}
+use Rattle.feeding_loads.specs.Walks.{WalkLent}
 use Rattle.plan_problem.specs.declared.Best.{Best}
 use Rattle.plan_problem.specs.Sets.{keep, price_of}
 use Rattle.plan_switches.specs.Switches.{turned, with_set}
 use Rattle.plan_switches.proofs.Columns.{states_set, turned_open, turned_closed}
 use Rattle.plan_switches.proofs.States.{states_over, turned_differ}
-use Rattle.plan_setting.specs.Setting.{Setting, Settled, adds_in}
+use Rattle.plan_setting.specs.declared.Setting.{Setting}
+use Rattle.plan_setting.specs.Packed.{adds_in}
 use Rattle.plan_stops.specs.Searching.{visited, dearer}
 use Rattle.plan_search.specs.Searching.{Placed, source_fits, fits_in, states_by, visit_in, switching_in, sought_in}
 
@@ -45,28 +46,28 @@ module _ (B : Setting) (states : List ℕ) where
   unfolding all_to
   fits_more j r h e t = rw (add-one j, ← h, ← e, t)
 
-  pub fits_not : (j : ℕ) (r : Bool) → j < B.sources → r ≡ source_fits B states j → r ≡ false → false ≡ fits_in B states
+  pub fits_not : (j : ℕ) (r : Bool) → j < B.sources.count → r ≡ source_fits B states j → r ≡ false → false ≡ fits_in B states
   unfolding fits_in
-  fits_not j r k e f = go (all_to B.sources (source_fits B states)) refl
+  fits_not j r k e f = go (all_to B.sources.count (source_fits B states)) refl
     where
-      go : (t : Bool) → all_to B.sources (source_fits B states) ≡ t → false ≡ t
-      go true t = sym f ∙ e ∙ all_to_out B.sources (source_fits B states) t j k
+      go : (t : Bool) → all_to B.sources.count (source_fits B states) ≡ t → false ≡ t
+      go true t = sym f ∙ e ∙ all_to_out B.sources.count (source_fits B states) t j k
       go false t = refl
 
-  pub fits_all : (j : ℕ) → true ≡ all_to j (source_fits B states) → j ≡ B.sources → true ≡ fits_in B states
+  pub fits_all : (j : ℕ) → true ≡ all_to j (source_fits B states) → j ≡ B.sources.count → true ≡ fits_in B states
   unfolding fits_in
   fits_all j h e = h ∙ ap (λ (n : ℕ). all_to n (source_fits B states)) e
 
 -- ---- a switch put
 
-module _ (B : Setting) (z : Settled B) (states : List ℕ) (i s : ℕ) (p : Placed B states i (s / 2)) (k : i < B.count) where
+module _ (B : Setting) (states : List ℕ) (i s : ℕ) (p : Placed B states i (s / 2)) (k : i < B.switches.count) where
   abbrev l : ℕ
-  l = B.link i
+  l = at B.switches.link i
 
-  off : at states (B.link i) ≡ 0
+  off : at states (at B.switches.link i) ≡ 0
   off = p.ahead i (omega arith) k
 
-  pub placed_open : turned (B.closed i) (s % 2) ≡ 0 → Placed B states (i + 1) s
+  pub placed_open : turned (at B.switches.closed i) (s % 2) ≡ 0 → Placed B states (i + 1) s
   unfolding with_set
   placed_open e = record {
     long = p.long;
@@ -78,41 +79,41 @@ module _ (B : Setting) (z : Settled B) (states : List ℕ) (i s : ℕ) (p : Plac
       chosen : states_by B (i + 1) s states ≡ states
       chosen =
           ap (λ (n : ℕ). states_by B n s states) (add-one i)
-          ∙ ap (λ (xs : List ℕ). set xs l (turned (B.closed i) (s % 2))) p.chosen
+          ∙ ap (λ (xs : List ℕ). set xs l (turned (at B.switches.closed i) (s % 2))) p.chosen
           ∙ ap (set states l) (e ∙ sym off) ∙ set-get_or states l 0
 
-  pub placed_closed : turned (B.closed i) (s % 2) ≡ 1 → Placed B (set states (B.link i) 1) (i + 1) s
+  pub placed_closed : turned (at B.switches.closed i) (s % 2) ≡ 1 → Placed B (set states (at B.switches.link i) 1) (i + 1) s
   unfolding with_set
   placed_closed e = record {
     long = length-set states l 1 ∙ p.long;
     chosen = chosen;
-    ahead = λ j h b. get_or-set_other states l (B.link j) 1 0 (λ q. z.apart i j (omega arith) b (sym q)) ∙ p.ahead j (omega arith) b;
+    ahead = λ j h b. get_or-set_other states l (at B.switches.link j) 1 0 (λ q. B.settled.columns.reach.apart i j (omega arith) b (sym q)) ∙ p.ahead j (omega arith) b;
     lent = λ t. rw (over t) (p.lent t);
   }
     where
-      over : (t : ℕ) → states_by B B.count t (set states l 1) ≡ states_by B B.count t states
-      over t = states_over B.link B.closed B.count z.apart t states i 1 k
+      over : (t : ℕ) → states_by B B.switches.count t (set states l 1) ≡ states_by B B.switches.count t states
+      over t = states_over (at B.switches.link) (at B.switches.closed) B.switches.count B.settled.columns.reach.apart t states i 1 k
 
       chosen : states_by B (i + 1) s (set states l 1) ≡ set states l 1
       chosen =
           ap (λ (n : ℕ). states_by B n s (set states l 1)) (add-one i)
-          ∙ ap (λ (xs : List ℕ). set xs l (turned (B.closed i) (s % 2)))
-          (states_set B.link B.closed i (s / 2) states l 1 (λ j b. z.apart j i b k) ∙ ap (λ (xs : List ℕ). set xs l 1) p.chosen)
-          ∙ set-set states l 1 (turned (B.closed i) (s % 2)) ∙ ap (set states l) e
+          ∙ ap (λ (xs : List ℕ). set xs l (turned (at B.switches.closed i) (s % 2)))
+          (states_set (at B.switches.link) (at B.switches.closed) i (s / 2) states l 1 (λ j b. B.settled.columns.reach.apart j i b k) ∙ ap (λ (xs : List ℕ). set xs l 1) p.chosen)
+          ∙ set-set states l 1 (turned (at B.switches.closed i) (s % 2)) ∙ ap (set states l) e
 
-  visit_over : visit_in B (set states (B.link i) 1) ≡ visit_in B states
+  visit_over : visit_in B (set states (at B.switches.link i) 1) ≡ visit_in B states
   unfolding visit_in
-  visit_over = ap (keep (price_of (adds_in B) B.count))
-      (fun_ext (λ t. ap (fits_in B) (states_over B.link B.closed B.count z.apart t states i 1 k)))
+  visit_over = ap (keep (price_of (adds_in B) B.switches.count))
+      (fun_ext (λ t. ap (fits_in B) (states_over (at B.switches.link) (at B.switches.closed) B.switches.count B.settled.columns.reach.apart t states i 1 k)))
 
   pub sought_over : (j served t : ℕ) (parent holds spare : List ℕ) (b : Best)
-      → sought_in B (set states (B.link i) 1) j served t parent holds spare b ≡ sought_in B states j served t parent holds spare b
+      → sought_in B (set states (at B.switches.link i) 1) j served t parent holds spare b ≡ sought_in B states j served t parent holds spare b
   unfolding sought_in
   sought_over j served t parent holds spare b =
-      ap (λ (visit : Best → ℕ → Best). visited (dearer (price_of (adds_in B))) visit (switching_in B) B.want (B.count - j) j served t parent holds spare b) visit_over
+      ap (λ (visit : Best → ℕ → Best). visited (dearer (price_of (adds_in B))) visit (switching_in B) B.want (B.switches.count - j) j served t parent holds spare b) visit_over
 
   -- the switch is opened again
-  pub state_undone : (states' : List ℕ) (v : ℕ) → v ≡ 0 → states' ≡ set states (B.link i) 1 → set states' (B.link i) v ≡ states
+  pub state_undone : (states' : List ℕ) (v : ℕ) → v ≡ 0 → states' ≡ set states (at B.switches.link i) 1 → set states' (at B.switches.link i) v ≡ states
   state_undone states' v e f = ap (λ (xs : List ℕ). set xs l v) f ∙ set-set states l 1 v ∙ ap (set states l) (e ∙ sym off) ∙ set-get_or states l 0
 
 -- at the same switch, with its choice written behind those before
@@ -120,12 +121,12 @@ pub placed_next : (B : Setting) (states : List ℕ) (i s : ℕ) → Placed B sta
 placed_next B states i s p states' t e f = rw (e, f) p
 
 -- all switches are chosen: the states are those of the set
-module _ (B : Setting) (states : List ℕ) (i s : ℕ) (p : Placed B states i s) (e : i ≡ B.count) where
-  whole : states_by B B.count s states ≡ states
+module _ (B : Setting) (states : List ℕ) (i s : ℕ) (p : Placed B states i s) (e : i ≡ B.switches.count) where
+  whole : states_by B B.switches.count s states ≡ states
   whole = ap (λ (n : ℕ). states_by B n s states) (sym e) ∙ p.chosen
 
-  pub lent_here : PackedLent B.chain states B.rating B.elements B.links
+  pub lent_here : WalkLent B.walk states
   lent_here = rw whole at (p.lent s)
 
-  pub fits_here : (r : Bool) → r ≡ fits_in B states → fits_in B (states_by B B.count s states) ≡ r
+  pub fits_here : (r : Bool) → r ≡ fits_in B states → fits_in B (states_by B B.switches.count s states) ≡ r
   fits_here r q = ap (fits_in B) whole ∙ sym q

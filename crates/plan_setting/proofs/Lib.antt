@@ -1,3 +1,2 @@
 pub mod Charges
 pub mod Filling
-pub mod Settled

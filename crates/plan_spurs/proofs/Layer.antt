@@ -13,7 +13,7 @@ use native.Mathlib.Omega.{arith}
 use Rattle.feeding.specs.Below.{gate}
 use Rattle.feeding.specs.Loads.{lowest_over}
 use Rattle.feeding.specs.Networks.{Grid, Formed, at, is_in}
-use Rattle.feeding.specs.Parts.{Config, far, sound?}
+use Rattle.feeding.specs.Parts.{Config, sound?}
 use Rattle.feeding.proofs.Below.{and_left, and_right}
 use Rattle.feeding.proofs.Forest.{Bridges}
 use Rattle.feeding.proofs.Labels.{far_lt}

@@ -1,7 +1,7 @@
 // Spurs: elements that hang by one link whatever the set of switches, so that the loads they add are the same in every configuration tried.
 #![tactic(auto)]
 
-ghost use Rattle.std.specs.Prelude.{◌≡◌, ◌<◌, ◌≤◌};
+ghost use Rattle.std.specs.Prelude.{◌≡◌, ◌<◌, ◌≤◌, MatchOption};
 ghost use Rattle.plan_spurs.specs.Spurs.{FarIn, hangs_by, bears_both, lumped_to};
 
 use feeding_ends::OwnEnds;
@@ -14,34 +14,27 @@ pub struct Lumped {
     pub load: [u32; 64],
 }
 
+// The first number that is no end.
 const NO_END: usize = 192;
 
-// The end by which e hangs, where it is a spur; 192 where it has no chained end or several, is a sound source, or hangs by a switch.
+// The end by which e hangs, where it is a spur: it has one chained end alone, is no sound source, and hangs by no switch.
 fn hangs_by<'a>(
     head: &'a [u8; 64],
     next: &'a [u8; 192],
     sound: &'a [u8; 96],
     base: &'a [u8; 96],
     e: usize,
-) -> usize
+) -> Option<usize>
     requires { e < 64 }
-    ensures { result ≡ hangs_by head.now next.now sound.now base.now e }
+    ensures { MatchOption result (192 ≡ hangs_by head.now next.now sound.now base.now e)
+        (λ j. (j < 192) × (j ≡ hangs_by head.now next.now sound.now base.now e)) }
 {
     let heads: &[u8] = head;
     let j = heads[e] as usize;
-    if j >= NO_END {
-        return NO_END;
+    if j >= NO_END || next[j] < 192 || sound[e] == 1 || base[j / 2] != 1 {
+        return None;
     }
-    if next[j] < 192 {
-        return NO_END;
-    }
-    if sound[e] == 1 {
-        return NO_END;
-    }
-    if base[j / 2] == 1 {
-        return j;
-    }
-    NO_END
+    Some(j)
 }
 
 // Whether a spur's own load is within its limit, and the capacity of what it hangs from bears both own loads.
@@ -72,17 +65,15 @@ pub fn lump_spurs<'a>(
     let capacities: &[u32] = capacity;
     let mut base = before.base;
     let mut load = before.load;
-    let mut e: usize = 0;
-    while e < elements {
-        let j = hangs_by(&head, &next, sound, &base, e);
-        if j < NO_END {
-            let to = far[j] as usize;
-            if bears(load[e], capacities[e], load[to], capacities[to]) {
-                load[to] = load[to] + load[e];
-                base[j / 2] = 0;
-            }
+    for e in 0..elements {
+        let Some(j) = hangs_by(&head, &next, sound, &base, e) else {
+            continue;
+        };
+        let to = far[j] as usize;
+        if bears(load[e], capacities[e], load[to], capacities[to]) {
+            load[to] += load[e];
+            base[j / 2] = 0;
         }
-        e += 1;
     }
     Lumped { base, load }
 }

@@ -25,23 +25,19 @@ pub fn sums_over(load: &[u32], live: &[u8], restorable: &[u8], count: usize) -> 
     let mut fed: u64 = 0;
     let mut dark: u64 = 0;
     let mut lost: u64 = 0;
-    let mut e: usize = 0;
-    while e < count {
+    for e in 0..count {
         let own = load[e] as u64;
         let is_live = live[e];
         let is_restorable = restorable[e];
         if is_live == 1 {
-            fed = fed + own;
+            fed += own;
         }
-        if is_restorable == 1 {
-            if is_live != 1 {
-                dark = dark + own;
-            }
+        if is_restorable == 1 && is_live != 1 {
+            dark += own;
         }
         if is_restorable != 1 {
-            lost = lost + own;
+            lost += own;
         }
-        e += 1;
     }
     Sums { fed, dark, lost }
 }

@@ -24,12 +24,9 @@ fn asks_of<'a>(label: &'a [u8], load: &'a [u32], capacity: &'a [u32], elements: 
     ensures { result ≡ asks_in label.now load.now capacity.now elements }
 {
     let mut out: [u64; 64] = [0; 64];
-    let mut e: usize = 0;
-    while e < elements {
+    for e in 0..elements {
         let x = label[e] as usize;
-        let more = ask(load[e], capacity[e]);
-        out[x] = out[x] + more;
-        e += 1;
+        out[x] += ask(load[e], capacity[e]);
     }
     out
 }
@@ -46,14 +43,11 @@ fn left_over<'a>(
     ensures { result ≡ spare_in asked label.now sound.now capacity.now elements }
 {
     let mut out = asked;
-    let mut s: usize = 0;
-    while s < elements {
+    for s in 0..elements {
         if sound[s] == 1 {
             let x = label[s] as usize;
-            let all = capacity[s] as u64;
-            out[x] = all - asked[x];
+            out[x] = capacity[s] as u64 - asked[x];
         }
-        s += 1;
     }
     out
 }
@@ -80,13 +74,10 @@ pub fn demand_of<'a>(has: &'a [u8], load: &'a [u32], capacity: &'a [u32], elemen
     ensures { result ≡ demand_in has.now load.now capacity.now elements }
 {
     let mut sum: u64 = 0;
-    let mut e: usize = 0;
-    while e < elements {
+    for e in 0..elements {
         if has[e] == 1 {
-            let more = ask(load[e], capacity[e]);
-            sum = sum + more;
+            sum += ask(load[e], capacity[e]);
         }
-        e += 1;
     }
     sum
 }

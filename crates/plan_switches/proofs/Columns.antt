@@ -2,9 +2,10 @@
 -- Assumes nothing.
 use Prim.Native.Nat.{ℕ, zero, suc, ◌+◌, ◌-◌, ◌/◌, ◌%◌, ◌≤◌, ◌<◌}
 use mathlib.Core.Path.{◌≡◌, refl, sym, ap, ap₂, ◌∙◌}
-use mathlib.Core.Bool.{Bool, true, false}
+use mathlib.Core.Bool.{Bool, true, false, not}
 use mathlib.Core.List.{List, [], ◌∷◌, ◌++◌}
 use lib.Dec.{eqb, ltb}
+use mir.Val.{bool_byte}
 use lib.ListN.{length, set, replicate, length-set, length-append, length-replicate, get_or-replicate, get_or-append}
 use lib.Seq.{get_or-set_same, get_or-set_other, get_or_at, set_comm}
 use borrow.Author.Tests.{eqb-true, eqb-false, eq-eqb, ne_eqb, ltb-true, lt-ltb, le-ltb}
@@ -50,6 +51,14 @@ turned_open closed b h = rw (eq-eqb closed b h, turned)
 pub turned_closed : (closed b : ℕ) → (closed ≡ b → ⊥) → 1 ≡ turned closed b
 unfolding turned
 turned_closed closed b h = rw (ne_eqb closed b h, turned)
+
+pub turned_is : (closed b : ℕ) → bool_byte (not (eqb closed b)) ≡ turned closed b
+unfolding turned
+turned_is closed b = go (eqb closed b)
+  where
+    go : (t : Bool) → bool_byte (not t) ≡ elim t [ true ↦ 0 | false ↦ 1 ]
+    go true = refl
+    go false = refl
 
 -- ---- columns
 
@@ -131,11 +140,9 @@ count_fits has l n k on fit =
     omega (arith, q, those_grow (is_in has) (l + 1) (n - (l + 1)))
 
 -- 1 for a closed switch
-pub closed_yes : (form : ℕ) → form ≡ 2 → 1 ≡ gate (eqb form 2) 1
-closed_yes form h = rw (eq-eqb form 2 h)
-
-pub closed_no : (form : ℕ) → (form ≡ 2 → ⊥) → 0 ≡ gate (eqb form 2) 1
-closed_no form h = rw (ne_eqb form 2 h)
+pub closed_is : (t : Bool) → bool_byte t ≡ gate t 1
+closed_is true = refl
+closed_is false = refl
 
 -- ---- the whole list
 
@@ -145,3 +152,24 @@ pub list_is : (n : Network) (ops link from to closed price : List ℕ) (count : 
     → ◌≡◌ {A = Switches} (record { link = link; from = from; to = to; closed = closed; price = price; count = count }) (switch_list n ops)
 unfolding switch_list
 list_is n ops link from to closed price count a b c d e f = rw (a, b, c, d, e, f)
+
+-- ---- the count, by what a link turns out to be
+
+module _ (has : List ℕ) where
+  pub count_none : length (members has 0) ≡ 0
+  unfolding members those
+  count_none = refl
+
+  pub count_on : (x sum sum' : ℕ) → sum ≡ length (members has x) → at has x ≡ 1 → sum' ≡ sum + 1 → sum' ≡ length (members has (x + 1))
+  unfolding members
+  count_on x sum sum' p on q =
+      let step : length (those (x + 1) (is_in has)) ≡ length (those x (is_in has)) + 1 =
+      rw (eq-eqb (at has x) 1 on) at (length_those_step x (is_in has)) in
+      omega arith
+
+  pub count_off : (x sum sum' : ℕ) → sum ≡ length (members has x) → (at has x ≡ 1 → ⊥) → sum' ≡ sum → sum' ≡ length (members has (x + 1))
+  unfolding members
+  count_off x sum sum' p off q =
+      let step : length (those (x + 1) (is_in has)) ≡ length (those x (is_in has)) + 0 =
+      rw (ne_eqb (at has x) 1 off) at (length_those_step x (is_in has)) in
+      omega arith

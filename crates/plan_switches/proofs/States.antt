@@ -14,12 +14,10 @@ use Rattle.network.specs.Accepted.{WellFormed}
 use Rattle.feeding.specs.Below.{gate}
 use Rattle.feeding.specs.Networks.{at, is_in, net_of, grid_of}
 use Rattle.feeding.specs.Plans.{put, differ, flip}
-use Rattle.feeding.specs.Costs.{set_cost}
 use Rattle.feeding.specs.Restoration.{operables_by}
 use Rattle.feeding.proofs.Lows.{those_in, those_out, those_rising}
 use Rattle.plan_problem.specs.Sets.{set_of, price_of, set_in}
 use Rattle.plan_problem.proofs.Rising.{at_member, member_at, at_rising}
-use Rattle.plan_problem.proofs.Prices.{price_cost}
 use Rattle.plan_switches.specs.declared.Switches.{Switches}
 use Rattle.plan_switches.specs.Switches.{SwitchReach, column, switch_list, turned, with_set}
 use Rattle.plan_switches.proofs.Columns.{length_column, at_column, states_set}

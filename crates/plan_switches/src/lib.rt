@@ -9,7 +9,7 @@ ghost use Rattle.plan_switches.specs.Switches.{SwitchReach, switch_list, with_se
 
 use network::Network;
 
-// Switch i of the list: its link number, its two ends, 1 in `closed` where it is closed at the start, its cost. Entries from `count` on are 0.
+// Columns with a count, since no heap is used and `SwitchReach` and `with_set` speak of columns. Switch i of the list: its link number, its two ends, 1 in `closed` where it is closed at the start, its cost. Entries from `count` on are 0.
 #[derive(Clone, Copy)]
 pub struct Switches {
     pub link: [u8; 16],
@@ -32,17 +32,15 @@ pub fn switches_of(net: Network, operable: &[u8]) -> Switches
     let mut closed: [u8; 16] = [0; 16];
     let mut price: [u16; 16] = [0; 16];
     let mut count: usize = 0;
-    let mut l: usize = 0;
-    while l < net.links {
+    for l in 0..net.links {
         if operable[l] == 1 {
             link[count] = l as u8;
             from[count] = net.from[l] as u8;
             to[count] = net.to[l] as u8;
-            closed[count] = if net.form[l] == 2 { 1 } else { 0 };
+            closed[count] = u8::from(net.form[l] == 2);
             price[count] = net.cost[l];
             count += 1;
         }
-        l += 1;
     }
     Switches {
         link,
@@ -68,17 +66,11 @@ pub fn with_set<'a>(
 {
     let mut out = states;
     let mut rest = set;
-    let mut i = count;
-    while 0 < i {
-        i = i - 1;
+    for i in (0..count).rev() {
         let l = link[i] as usize;
         let bit = (rest % 2) as u8;
-        if closed[i] == bit {
-            out[l] = 0;
-        } else {
-            out[l] = 1;
-        }
-        rest = rest / 2;
+        out[l] = u8::from(closed[i] != bit);
+        rest /= 2;
     }
     out
 }

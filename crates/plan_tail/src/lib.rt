@@ -12,10 +12,11 @@ use feeding_margins::{Spot, tightest_spot};
 use feeding_start::Start;
 use plan_sums::{Sums, sums_after};
 
+// The sums of loads, and the tightest spot where some element is live.
 #[derive(Clone, Copy)]
 pub struct Tail {
     pub sums: Sums,
-    pub spot: Spot,
+    pub spot: Option<Spot>,
 }
 
 // The tail in a safe configuration; closed[l] is 1 for a closed link.
@@ -26,9 +27,6 @@ pub fn tail_after(start: Start, closed: &[u8]) -> Tail
     ensures { result ≡ tail_after (net_of start.net) (closed_in closed.now) }
 {
     let sums = sums_after(start, closed);
-    let net = start.net;
-    let own = start.own;
-    let sound = start.sound;
-    let spot = tightest_spot(net, own, &sound, closed);
+    let spot = tightest_spot(start.net, start.own, &start.sound, closed);
     Tail { sums, spot }
 }

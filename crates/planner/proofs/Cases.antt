@@ -5,8 +5,7 @@ use mathlib.Core.List.{List}
 use Prim.Native.Nat.{ℕ}
 use Rattle.network.specs.declared.refusal.Refusal.{Refusal}
 use Rattle.file_plan.specs.declared.plan.Plan.{Plan}
-use Rattle.file_writer.specs.declared.Written.{Written}
-use Rattle.file_writer.specs.declared.Written.TheVariants as Written·
+use Rattle.std.specs.Prelude.{Result, Ok, Err}
 use Rattle.file_writer.specs.Writing.{written, buffer_after}
 use Rattle.plan_sums.specs.declared.Sums.{Sums}
 use Rattle.texts.specs.Texts.{refused_line}
@@ -18,12 +17,12 @@ use Rattle.plan_outcome.specs.declared.Outcome.{Outcome}
 use Rattle.planner.specs.Replies.{reply_written, reply_with, reply_for, buffer_with, buffer_for, lines_with, lines_of}
 
 -- what `write_plan` answers is the reply: the file fits, or it does not
-module _ (p : Planned) (plan : Plan) (buffer : List ℕ) (w : Written) (made : w ≡ written plan buffer) where
-  pub plan_fits : (k : ℕ) → w ≡ Written·.Bytes k → Reply·.Plan p ≡ reply_written p (written plan buffer)
+module _ (p : Planned) (plan : Plan) (buffer : List ℕ) (w : Result ℕ Refusal) (made : w ≡ written plan buffer) where
+  pub plan_fits : (k : ℕ) → w ≡ Ok k → Reply·.Plan p ≡ reply_written p (written plan buffer)
   unfolding reply_written
   plan_fits k fits = ap (reply_written p) (sym fits ∙ made)
 
-  pub plan_short : (f : Refusal) → w ≡ Written·.Refused f → Reply·.Refused f ≡ reply_written p (written plan buffer)
+  pub plan_short : (f : Refusal) → w ≡ Err f → Reply·.Refused f ≡ reply_written p (written plan buffer)
   unfolding reply_written
   plan_short f short = ap (reply_written p) (sym short ∙ made)
 

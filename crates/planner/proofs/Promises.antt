@@ -11,7 +11,8 @@ use borrow.Author.Tests.{ltb-true, ltb-false}
 use Rattle.network.specs.declared.refusal.Rule.TheVariants.{BufferTooShort}
 use Rattle.network.specs.Refusals.{pick}
 use Rattle.file_plan.specs.declared.plan.Plan.{Plan}
-use Rattle.file_writer.specs.declared.Written.TheVariants as Written·
+use Rattle.std.specs.Prelude.{Result, Ok, Err}
+use Rattle.network.specs.declared.refusal.Refusal.{Refusal}
 use Rattle.file_writer.specs.Writing.{plan_bytes, plan_length, written, buffer_after}
 use Rattle.plan_form.specs.Printing.{steps_of}
 use Rattle.feeding_acceptance.specs.Reading.{Bytes}
@@ -47,7 +48,7 @@ module _ (s buffer : List ℕ) where
 
       go : (t : Bool) → ltb (length buffer) (plan_length plan) ≡ t
           → LibraryReply s buffer
-          (reply_written p (pick t (Written·.Refused (record { rule = BufferTooShort; place = plan_length plan })) (Written·.Bytes (plan_length plan))))
+          (reply_written p (pick {A = Result ℕ Refusal} t (Err (record { rule = BufferTooShort; place = plan_length plan })) (Ok (plan_length plan))))
           (pick t buffer (plan_bytes plan ++ drop (plan_length plan) buffer))
       go true t =
           subst (λ (n : ℕ). LibraryReply s buffer (Reply·.Refused (record { rule = BufferTooShort; place = n })) buffer) (sym long)

@@ -1,7 +1,7 @@
 -- Document 01, the planner's reply to any sequence of bytes: which texts are its replies, what the library answers and leaves in a lent buffer, and what
 -- computes both.
 -- Assumes nothing.
-use Rattle.std.specs.Prelude.{List, [], ◌∷◌, ◌++◌, ℕ, ◌<◌, ◌≤◌, length, drop}
+use Rattle.std.specs.Prelude.{List, [], ◌∷◌, ◌++◌, ℕ, ◌<◌, ◌≤◌, length, drop, Result, Ok, Err}
 use Rattle.network.specs.declared.Network.{Network}
 use Rattle.network.specs.declared.refusal.Refusal.{Refusal}
 use Rattle.network.specs.declared.refusal.Rule.TheVariants.{BufferTooShort}
@@ -12,8 +12,6 @@ use Rattle.plan_problem.specs.Choosing.{Promised, NoPlan}
 use Rattle.plan_sums.specs.declared.Sums.{Sums}
 use Rattle.plan_sums.specs.Sums.{LoadsIn}
 use Rattle.file_plan.specs.declared.plan.Plan.{Plan}
-use Rattle.file_writer.specs.declared.Written.{Written}
-use Rattle.file_writer.specs.declared.Written.TheVariants as Written·
 use Rattle.file_writer.specs.Writing.{plan_head_bytes, step_bytes, end_bytes, written, buffer_after}
 use Rattle.texts.specs.Texts.{refused_line}
 use Rattle.plan_lines.specs.Lines.{plan_line, step_line, reply_text, tail_lines, plan_lines, none_lines}
@@ -65,9 +63,9 @@ pub data LibraryReply (s before : List ℕ) : Reply → List ℕ → Type 0 wher
 -- ---- what computes: the plan file in a lent buffer
 
 -- rule 19 comes last
-unfoldable pub reply_written : Planned → Written → Reply
-reply_written p (Written·.Bytes n) = Reply·.Plan p
-reply_written p (Written·.Refused f) = Reply·.Refused f
+unfoldable pub reply_written : Planned → Result ℕ Refusal → Reply
+reply_written p (Ok n) = Reply·.Plan p
+reply_written p (Err f) = Reply·.Refused f
 
 unfoldable pub reply_with : Reply → Plan → List ℕ → Reply
 reply_with (Reply·.Plan p) found buffer = reply_written p (written found buffer)

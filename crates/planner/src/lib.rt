@@ -8,7 +8,7 @@ ghost use Rattle.file_writer.specs.Writing.{written, buffer_after};
 ghost use Rattle.planner.specs.Replies.{PlannerReply, LibraryReply, reply_written, reply_for, buffer_for, lines_of};
 
 use file_plan::plan::Plan;
-use file_writer::{Written, write_plan};
+use file_writer::write_plan;
 use plan_answer::answer;
 use plan_lines::{none_lines, plan_lines};
 use plan_outcome::{Planned, Reply};
@@ -19,10 +19,9 @@ fn written_reply(planned: Planned, plan: Plan, buffer: &mut [u8]) -> Reply
     ensures value { result ≡ reply_written planned (written plan buffer.old) }
     ensures buffer_after { buffer.new ≡ buffer_after plan buffer.old }
 {
-    let done = write_plan(plan, buffer);
-    match done {
-        Written::Bytes(_) => Reply::Plan(planned),
-        Written::Refused(refusal) => Reply::Refused(refusal),
+    match write_plan(plan, buffer) {
+        Ok(_) => Reply::Plan(planned),
+        Err(refusal) => Reply::Refused(refusal),
     }
 }
 

@@ -13,6 +13,7 @@ use std::io::{Read, Write};
 pub const DECIDING_BYTES: usize = 8192;
 
 // How far an input was read: so many bytes stand in front of the buffer and more may come, or they are all, or a read failed.
+// Three outcomes, so it is no Result.
 #[derive(Clone, Copy)]
 pub enum Input {
     More(usize),
@@ -110,6 +111,7 @@ pub fn read_full<R: Read>(from: &mut R, buffer: &mut [u8]) -> usize
     ensures known { Consumes (R.remaining from.old) (R.remaining from.new) (take result buffer.new) }
 {
     let mut done = 0usize;
+    // on by what each read brought, so it counts nothing
     while done < buffer.len() {
         match from.read(&mut buffer[done..]) {
             Ok(0) => break,
@@ -118,4 +120,23 @@ pub fn read_full<R: Read>(from: &mut R, buffer: &mut [u8]) -> usize
         }
     }
     done
+}
+
+// A program that answers the whole of its input by one text: the reply is what `answer` puts in front of the buffer that it is lent.
+pub fn reply<R: Read, W: Write, E: Write, F: Fn(&[u8], &mut [u8; 4096]) -> usize>(
+    from: &mut R,
+    to: &mut W,
+    errors: &mut E,
+    program: &[u8],
+    answer: F,
+)
+    requires { F.IsAlwaysCallable answer }
+{
+    let mut bytes = input_buffer();
+    let Input::Whole(length) = read_input(from, errors, program, &mut bytes) else {
+        return;
+    };
+    let mut out = [0u8; 4096];
+    let written = answer(&bytes[..length], &mut out).min(out.len());
+    write_reply(to, errors, program, &out[..written]);
 }

@@ -4,6 +4,8 @@ use mathlib.Core.Path.{◌≡◌, ap, subst, ◌∙◌}
 use mathlib.Core.List.{List}
 use Prim.Native.Nat.{ℕ}
 use lib.ListN.{length}
+use Rattle.std.specs.Prelude.{Result}
+use Rattle.network.specs.declared.refusal.Refusal.{Refusal}
 use Rattle.final_judge.specs.declared.Decided.{Decided}
 use Rattle.host_values.specs.Values.{final_kind, final_values, values_in}
 
@@ -18,14 +20,14 @@ valued Kept vs found lent after n same put reply =
 
 -- the kind and the values of what a final is decided
 pub decided_valued :
-    (Is : Decided → Type 0) (d e : Decided) →
+    (Is : Result Decided Refusal → Type 0) (d e : Result Decided Refusal) →
     (d ≡ e) × Is d →
     (found lent after : List ℕ) (k n : ℕ) →
-    k ≡ final_kind d.answer →
+    k ≡ final_kind d →
     found ≡ final_values d →
     (n ≡ length found) × (after ≡ values_in found lent) →
-    (k ≡ final_kind e.answer) × ((after ≡ values_in (final_values e) lent) × ((n ≡ length (final_values e)) × Is e))
+    (k ≡ final_kind e) × ((after ≡ values_in (final_values e) lent) × ((n ≡ length (final_values e)) × Is e))
 decided_valued Is d e is found lent after k n kind same put = (
-  kind ∙ ap (λ (x : Decided). final_kind x.answer) is.0,
+  kind ∙ ap final_kind is.0,
   valued (Is e) _ found lent after n (same ∙ ap final_values is.0) put (subst Is is.0 is.1),
 )

@@ -80,7 +80,7 @@ pub extern "C" fn tamchuwe_mark_text(input: &[u8], out: &mut [u8]) -> usize
 // A trial final in one input: whether it is marked, with its values and their count as above; the part by its offset in the input.
 #[unsafe(no_mangle)]
 pub extern "C" fn tamchuwe_final(input: &[u8], values: &mut [u64], count: &mut usize) -> u64
-    ensures value { result ≡ final_kind (final_for input.now).answer }
+    ensures value { result ≡ final_kind (final_for input.now) }
     ensures values_after { values.new ≡ values_in (final_values (final_for input.now)) values.old }
     ensures count_after { count.new ≡ length (final_values (final_for input.now)) }
     ensures final_decided { FinalDecided input.now (final_for input.now) }
@@ -112,7 +112,7 @@ pub extern "C" fn tamchuwe_final_apart(
     values: &mut [u64],
     count: &mut usize,
 ) -> u64
-    ensures value { result ≡ final_kind (files_for network.now first.now second.now).answer }
+    ensures value { result ≡ final_kind (files_for network.now first.now second.now) }
     ensures values_after { values.new ≡ values_in (final_values (files_for network.now first.now second.now)) values.old }
     ensures count_after { count.new ≡ length (final_values (files_for network.now first.now second.now)) }
     ensures files_decided { FilesDecided network.now first.now second.now (files_for network.now first.now second.now) }

@@ -3,10 +3,8 @@
 #![tactic(auto)]
 
 use file_plan::plan::Plan;
-use file_writer::Written;
-use network::refusal;
-use network::refusal::{Answer, Refusal};
-use plan_least_cost::Cheapest;
+use network::Network;
+use network::refusal::Refusal;
 use plan_outcome::Reply;
 use plan_sums::Sums;
 use test_files::{number, put, put_times};
@@ -27,21 +25,9 @@ enum Run {
     Write(usize),
 }
 
-fn wide(byte: u8) -> u64 {
-    byte as u64
-}
-
-fn wide16(n: u16) -> u64 {
-    n as u64
-}
-
-fn wide32(n: u32) -> u64 {
-    n as u64
-}
-
 fn show_bytes<P: Print>(rt: &P, bytes: &[u8]) {
     for &byte in bytes {
-        field(rt, wide(byte));
+        field(rt, u64::from(byte));
     }
     text(rt, b"\n");
 }
@@ -49,60 +35,58 @@ fn show_bytes<P: Print>(rt: &P, bytes: &[u8]) {
 fn show_refusal<P: Print>(rt: &P, refused: Refusal) {
     text(rt, b"refused");
     let rule = refused.rule;
-    field(rt, wide(refusal::number(rule)));
+    field(rt, u64::from(u8::from(rule)));
     field(rt, refused.place as u64);
 }
 
-// What a reader answers, with the counts of elements, links and steps that it hands out.
-fn show_answer<P: Print>(rt: &P, answer: Answer, elements: usize, links: usize, steps: u8) {
-    match answer {
-        Answer::Refused(refused) => show_refusal(rt, refused),
-        Answer::Accepted => {
-            text(rt, b"accepted");
-            field(rt, elements as u64);
-            field(rt, links as u64);
-            field(rt, wide(steps));
-        }
+// The counts of elements, links and steps that a reader hands out.
+fn show_counts<P: Print>(rt: &P, elements: usize, links: usize, steps: u8) {
+    text(rt, b"accepted");
+    field(rt, elements as u64);
+    field(rt, links as u64);
+    field(rt, u64::from(steps));
+}
+
+fn read_network<P: Print>(rt: &P, bytes: &[u8]) {
+    match file_network::read_network(bytes) {
+        Err(refused) => show_refusal(rt, refused),
+        Ok(net) => show_counts(rt, net.elements, net.links, 0),
     }
     text(rt, b"\n");
 }
 
-fn read_network<P: Print>(rt: &P, bytes: &[u8]) {
-    let read = file_network::read_network(bytes);
-    let answer = read.answer;
-    let net = read.net;
-    show_answer(rt, answer, net.elements, net.links, 0);
-}
-
 fn read_input<P: Print>(rt: &P, bytes: &[u8]) {
-    let read = file_both::read_network_and_plan(bytes);
-    let answer = read.answer;
-    let net = read.net;
-    let plan = read.plan;
-    show_answer(rt, answer, net.elements, net.links, plan.steps);
+    match file_both::read_network_and_plan(bytes) {
+        Err(refused) => show_refusal(rt, refused),
+        Ok(read) => show_counts(rt, read.net.elements, read.net.links, read.plan.steps),
+    }
+    text(rt, b"\n");
 }
 
 // A plan file from a place on, for a network of five links.
 fn read_plan<P: Print>(rt: &P, bytes: &[u8], place: usize) {
-    let read = file_plan::read_plan(bytes, place, 5);
-    let answer = read.answer;
-    let plan = read.plan;
-    show_answer(rt, answer, 0, 0, plan.steps);
+    match file_plan::read_plan(bytes, place, 5) {
+        Err(refused) => show_refusal(rt, refused),
+        Ok(plan) => show_counts(rt, 0, 0, plan.steps),
+    }
+    text(rt, b"\n");
 }
 
-// Element 3 and link 3 as they are read.
+// Element 3 and link 3 as they are read, or of the empty network where they are refused.
 fn entries<P: Print>(rt: &P, bytes: &[u8]) {
-    let read = file_both::read_network_and_plan(bytes);
-    let net = read.net;
+    let net = match file_both::read_network_and_plan(bytes) {
+        Err(_) => Network::empty(),
+        Ok(read) => read.net,
+    };
     text(rt, b"entries");
-    field(rt, wide32(net.load[3]));
-    field(rt, wide32(net.capacity[3]));
-    field(rt, wide16(net.flags[3]));
-    field(rt, wide16(net.from[3]));
-    field(rt, wide16(net.to[3]));
-    field(rt, wide16(net.form[3]));
-    field(rt, wide16(net.cost[3]));
-    field(rt, wide16(net.guard[3]));
+    field(rt, u64::from(net.load[3]));
+    field(rt, u64::from(net.capacity[3]));
+    field(rt, u64::from(net.flags[3]));
+    field(rt, u64::from(net.from[3]));
+    field(rt, u64::from(net.to[3]));
+    field(rt, u64::from(net.form[3]));
+    field(rt, u64::from(net.cost[3]));
+    field(rt, u64::from(net.guard[3]));
     text(rt, b"\n");
 }
 
@@ -113,8 +97,8 @@ fn write_into<P: Print>(rt: &P, plan: Plan, buffer: &mut [u8], length: usize) {
     }
     let written = file_writer::write_plan(plan, &mut buffer[0..length]);
     match written {
-        Written::Refused(refused) => show_refusal(rt, refused),
-        Written::Bytes(n) => {
+        Err(refused) => show_refusal(rt, refused),
+        Ok(n) => {
             text(rt, b"written");
             field(rt, n as u64);
         }
@@ -123,10 +107,12 @@ fn write_into<P: Print>(rt: &P, plan: Plan, buffer: &mut [u8], length: usize) {
     show_bytes(rt, buffer);
 }
 
-// The plan that is read, written into the first bytes of a buffer of 20, all 7.
+// The plan that is read, or the empty plan where it is refused, written into the first bytes of a buffer of 20, all 7.
 fn write<P: Print>(rt: &P, bytes: &[u8], length: usize) {
-    let read = file_both::read_network_and_plan(bytes);
-    let plan = read.plan;
+    let plan = match file_both::read_network_and_plan(bytes) {
+        Err(_) => Plan::empty(),
+        Ok(read) => read.plan,
+    };
     let mut buffer: [u8; 20] = [7; 20];
     write_into(rt, plan, &mut buffer, length);
 }
@@ -174,12 +160,12 @@ fn into<P: Print>(rt: &P, bytes: &[u8], length: usize) {
 fn cheapest<P: Print>(rt: &P, bytes: &[u8]) {
     let found = plan_least_cost::cheapest_in(bytes);
     match found {
-        Cheapest::Cost(cost) => {
+        Ok(Some(cost)) => {
             text(rt, b"costs");
             field(rt, cost);
         }
-        Cheapest::NoPlan => text(rt, b"none"),
-        Cheapest::Refused(refused) => show_refusal(rt, refused),
+        Ok(None) => text(rt, b"none"),
+        Err(refused) => show_refusal(rt, refused),
     }
     text(rt, b"\n");
 }
@@ -255,6 +241,7 @@ fn put_meaning(out: &mut [u8; 4096], at: usize, line: &[u8], name: u8) -> usize 
 fn put_named(out: &mut [u8; 4096], input: &[u8], name: u8) -> usize {
     let mut to: usize = 0;
     let mut at: usize = 0;
+    // `split` would hand on an empty line behind the last line feed
     while at < input.len() {
         let end = find(input, at, b'\n');
         if end < at {
@@ -460,6 +447,7 @@ fn run_line<P: Print>(rt: &P, input: &[u8], line: &[u8]) {
 
 fn run_lines<P: Print>(rt: &P, input: &[u8]) {
     let mut at: usize = 0;
+    // `split` would hand on an empty line behind the last line feed
     while at < input.len() {
         let end = find(input, at, b'\n');
         if end < at {

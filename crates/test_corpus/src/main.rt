@@ -5,56 +5,32 @@
 #![tactic(auto)]
 
 use std::io::Read;
-use test_parts::{MOST_ITEMS, NO_PART, next_count, next_part};
+use test_parts::{each_item, next_count, next_part};
 use test_replies::{print_mark, print_plan};
-
-// The planner's lines for the network part in front of the buffer.
-fn plan_front<P: Print>(rt: &P, buffer: &[u8], length: usize) {
-    if buffer.len() < length {
-        return;
-    }
-    print_plan(rt, &buffer[0..length]);
-}
 
 // The judge's line for a network part of the length given and the plan part that is next.
 fn judge_next<R: Read, P: Print>(from: &mut R, rt: &P, buffer: &mut [u8], length: usize) {
-    let end = next_part(from, buffer, length);
-    if buffer.len() < end {
+    let Some(end) = next_part(from, buffer, length) else {
         return;
-    }
-    print_mark(rt, &buffer[0..end]);
+    };
+    print_mark(rt, &buffer[..end]);
 }
 
-fn judge_all<R: Read, P: Print>(
-    from: &mut R,
-    rt: &P,
-    buffer: &mut [u8],
-    length: usize,
-    plans: usize,
-) {
+// The planner's lines for the network part in front of the buffer, and the judge's for each plan part behind it.
+fn print_item<R: Read, P: Print>(from: &mut R, rt: &P, buffer: &mut [u8], length: usize) {
+    if let Some(network) = buffer.get(..length) {
+        print_plan(rt, network);
+    }
+    let plans = next_count(from);
     for _ in 0..plans {
         judge_next(from, rt, buffer, length);
     }
 }
 
-// The next item, if there is one.
-fn turn<R: Read, P: Print>(from: &mut R, rt: &P) -> bool {
-    let mut buffer = streams::input_buffer();
-    let length = next_part(from, &mut buffer, 0);
-    if length == NO_PART {
-        return false;
-    }
-    plan_front(rt, &buffer, length);
-    let plans = next_count(from);
-    judge_all(from, rt, &mut buffer, length, plans);
-    true
-}
-
 fn main(rt: HostRuntime) {
     let mut from = rt.stdin();
-    for _ in 0..MOST_ITEMS {
-        if !turn(&mut from, &rt) {
-            return;
-        }
-    }
+    each_item(
+        &mut from,
+        |from, buffer, length| print_item(from, &rt, buffer, length),
+    );
 }

@@ -3,30 +3,20 @@
 // kind 8, a dot for the end, P for a plan head and S for a step. Behind that `|121` cuts the file to 121 bytes, and `@4=65` makes its byte 4 a 65.
 #![tactic(auto)]
 
-// A text that is being read: the file's length, the sign in front of the number that is being read, that number, and the byte to be changed.
+// A text that is being read: the file's length, the sign in front of the number that is being read, that number if there is one, and the
+// byte to be changed.
 #[derive(Clone, Copy)]
 struct Reading {
     length: usize,
     sign: u8,
-    is_number: bool,
-    number: usize,
+    number: Option<usize>,
     place: usize,
 }
 
-fn is_digit(sign: u8) -> bool {
-    if sign < 48 {
-        return false;
-    }
-    sign < 58
-}
-
-// A number with one more digit behind it; numbers of a text are below 100,000.
+// A number with one more digit behind it, where `sign` is a digit; numbers of a text are below 100,000.
 fn with_digit(number: usize, sign: u8) -> usize {
-    if sign < 48 {
-        return number;
-    }
-    let digit = (sign - 48) as usize;
-    number % 10000 * 10 + digit
+    let digit = sign.saturating_sub(b'0');
+    number % 10000 * 10 + usize::from(digit)
 }
 
 fn put_byte(out: &mut [u8; 4096], at: usize, n: usize) -> usize {
@@ -64,38 +54,29 @@ fn put_sign(out: &mut [u8; 4096], at: usize, sign: u8) -> usize {
 }
 
 // The number that was read does what the sign in front of it says.
-fn number_done(out: &mut [u8; 4096], text: Reading) -> Reading {
+fn number_done(out: &mut [u8; 4096], text: Reading, number: usize) -> Reading {
     let mut next = text;
-    let sign = text.sign;
-    let number = text.number;
-    let length = text.length;
-    let place = text.place;
-    if sign == b'|' {
-        if number < length {
-            next.length = number;
+    match text.sign {
+        b'|' => next.length = number.min(text.length),
+        b'@' => next.place = number,
+        b'=' => {
+            put_byte(out, text.place, number);
         }
-    } else if sign == b'@' {
-        next.place = number;
-    } else if sign == b'=' {
-        put_byte(out, place, number);
-    } else {
-        next.length = put_number(out, length, number);
+        _ => next.length = put_number(out, text.length, number),
     }
     next
 }
 
 fn with_sign(out: &mut [u8; 4096], text: Reading, sign: u8) -> Reading {
     let mut next = text;
-    if is_digit(sign) {
-        next.is_number = true;
-        next.number = with_digit(text.number, sign);
+    if sign.is_ascii_digit() {
+        next.number = Some(with_digit(text.number.unwrap_or(0), sign));
         return next;
     }
-    if text.is_number {
-        next = number_done(out, text);
+    if let Some(number) = text.number {
+        next = number_done(out, text, number);
     }
-    next.is_number = false;
-    next.number = 0;
+    next.number = None;
     next.sign = sign;
     next.length = put_sign(out, next.length, sign);
     next
@@ -106,8 +87,7 @@ pub fn put(out: &mut [u8; 4096], at: usize, signs: &[u8]) -> usize {
     let mut text = Reading {
         length: at,
         sign: b' ',
-        is_number: false,
-        number: 0,
+        number: None,
         place: 0,
     };
     for &sign in signs {
@@ -130,7 +110,7 @@ pub fn put_times(out: &mut [u8; 4096], at: usize, signs: &[u8], times: usize) ->
 pub fn number(signs: &[u8]) -> usize {
     let mut n: usize = 0;
     for &sign in signs {
-        if !is_digit(sign) {
+        if !sign.is_ascii_digit() {
             return n;
         }
         n = with_digit(n, sign);

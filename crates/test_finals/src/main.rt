@@ -9,66 +9,45 @@
 // the expected output (bench/src/finals/corpus.rs says what occurs in it), so that the gate holds the judge of finals to it.
 #![tactic(auto)]
 
+ghost use Rattle.std.specs.Prelude.{◌≤◌, length};
+
 use std::io::Read;
-use test_parts::{MOST_ITEMS, NO_PART, next_count, next_part};
+use test_parts::{each_item, next_count, next_length, next_part};
 use test_replies::{print_apart, print_final};
 
 // The first plan file begins at `start`, the second at `middle`.
-fn print_both<P: Print>(rt: &P, input: &[u8], start: usize, middle: usize) {
-    if middle < start {
-        return;
-    }
-    if input.len() < middle {
-        return;
-    }
+fn print_both<P: Print>(rt: &P, input: &[u8], start: usize, middle: usize)
+    requires in_order { start ≤ middle }
+    requires within { middle ≤ length input.now }
+{
     print_final(rt, input);
-    print_apart(
-        rt,
-        &input[0..start],
-        &input[start..middle],
-        &input[middle..],
-    );
+    print_apart(rt, &input[..start], &input[start..middle], &input[middle..]);
 }
 
-// The pair that is next, behind a network part of the length given.
+// The pair that is next, behind a network part of the length given. Of a pair whose first part does not fit, the second part's length is read as well.
 fn hold_pair<R: Read, P: Print>(from: &mut R, rt: &P, buffer: &mut [u8], length: usize) {
-    let middle = next_part(from, buffer, length);
-    let end = next_part(from, buffer, middle);
-    if buffer.len() < end {
+    let Some(middle) = next_part(from, buffer, length) else {
+        let _ = next_length(from);
         return;
-    }
-    print_both(rt, &buffer[0..end], length, middle);
+    };
+    let Some(end) = next_part(from, buffer, middle) else {
+        return;
+    };
+    print_both(rt, &buffer[..end], length, middle);
 }
 
-fn hold_all<R: Read, P: Print>(
-    from: &mut R,
-    rt: &P,
-    buffer: &mut [u8],
-    length: usize,
-    pairs: usize,
-) {
+// The pairs behind the network part in front of the buffer.
+fn hold_all<R: Read, P: Print>(from: &mut R, rt: &P, buffer: &mut [u8], length: usize) {
+    let pairs = next_count(from);
     for _ in 0..pairs {
         hold_pair(from, rt, buffer, length);
     }
 }
 
-// The next item, if there is one.
-fn turn<R: Read, P: Print>(from: &mut R, rt: &P) -> bool {
-    let mut buffer = streams::input_buffer();
-    let length = next_part(from, &mut buffer, 0);
-    if length == NO_PART {
-        return false;
-    }
-    let pairs = next_count(from);
-    hold_all(from, rt, &mut buffer, length, pairs);
-    true
-}
-
 fn main(rt: HostRuntime) {
     let mut from = rt.stdin();
-    for _ in 0..MOST_ITEMS {
-        if !turn(&mut from, &rt) {
-            return;
-        }
-    }
+    each_item(
+        &mut from,
+        |from, buffer, length| hold_all(from, &rt, buffer, length),
+    );
 }

@@ -3,8 +3,7 @@
 
 use final_better::Part;
 use final_judge::Decided;
-use host_values::better_number;
-use network::refusal::Answer;
+use network::refusal::Refusal;
 
 // Bytes on standard output. A failure is not told: what is missing shows where the output is compared with the expected one.
 pub fn text<P: Print>(rt: &P, bytes: &[u8]) {
@@ -31,20 +30,18 @@ pub fn print_mark<P: Print>(rt: &P, input: &[u8]) {
 }
 
 fn print_part<P: Print>(rt: &P, part: Part) {
-    let better = part.better;
     text(rt, b"PART");
-    field(rt, better_number(better));
+    field(rt, u64::from(part.better));
     field(rt, part.offset as u64);
     field(rt, part.length as u64);
     text(rt, b"\n");
 }
 
 // PART, the better file, and offset and length of its part; nothing where the final is refused.
-fn print_decided<P: Print>(rt: &P, decided: Decided) {
-    let answer = decided.answer;
-    match answer {
-        Answer::Refused(_) => {}
-        Answer::Accepted => print_part(rt, decided.part),
+fn print_decided<P: Print>(rt: &P, decided: Result<Decided, Refusal>) {
+    match decided {
+        Err(_) => {}
+        Ok(both) => print_part(rt, both.part),
     }
 }
 

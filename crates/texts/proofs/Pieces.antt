@@ -2,20 +2,20 @@
 -- Assumes nothing.
 use mathlib.Core.Path.{◌≡◌, refl, ap, sym, ◌∙◌}
 use mathlib.Core.Bool.{Bool, true, false, false≢true}
-use mathlib.Core.List.{List, [], ◌∷◌, ◌++◌}
+use mathlib.Core.List.{List, [], ◌∷◌, ◌++◌, append_assoc}
 use Prim.Native.Nat.{ℕ, suc, ◌+◌, ◌-◌, ◌/◌, ◌%◌, ◌^◌, ◌<◌, ◌≤◌}
 use native.Mathlib.Nat.{add_assoc, zero-add}
 use native.Mathlib.Numerals.{add-one}
 use native.Mathlib.Omega.{arith}
 use lib.IntN.{ℤ, pos, negsuc, nat_abs}
-use lib.Dec.{T}
-use lib.Signed.{lt_z, mag, non_neg}
+use lib.Signed.{lt_z}
 use mir.Syntax.{w64}
-use mir.Val.{Fits, SFits, to_z, of_z}
+use mir.Val.{SFits, to_z, of_z}
 use mir.Facts.{to_z-of_z}
-use borrow.Author.Tests.{ltb-true, lt-ltb}
-use lib.ListN.{length, get_or, take, drop, set, length-append, length-take}
-use lib.Seq.{sets, take-suc, length-take-le, take_at}
+use borrow.Author.Tests.{ltb-true}
+use lib.ListN.{length, take, drop, set, length-append, length-take}
+use borrow.Rule.Slice.PartMut.{put_mid}
+use lib.Seq.{sets, sets-eq, drop-drop, take_at}
 use Rattle.network.proofs.Stores.{stored_behind, sets_front}
 use Rattle.texts.specs.Texts.{decimal, field, signed_field, feed, line_of, in_front, Counted}
 use Rattle.texts.proofs.Digits.{decimal_one, decimal_more, decimal_16, decimal_64}
@@ -34,17 +34,16 @@ put_behind l l' l'' i j k xs ys p q = (
 
 -- ---- a text
 
--- one turn of the loop over its bytes
-pub text_more :
-    (l l' : List ℕ) (at i : ℕ) (xs : List ℕ) →
-    l' ≡ sets l at (take i xs) →
-    i < length xs →
-    set l' (at + i) (get_or xs i 0) ≡ sets l at (take (i + 1) xs)
-text_more l l' at i xs e h =
-    let long : length (take i xs) ≡ i = length-take-le i xs (omega arith) in
-    let more : take (i + 1) xs ≡ take i xs ++ (get_or xs i 0 ∷ []) = rw add-one (take-suc xs i 0 h) in
-    stored_behind l l' _ at (at + i) (take i xs) (get_or xs i 0 ∷ []) e refl (rw long) ∙
-    ap (λ (ys : List ℕ). sets l at ys) (sym more)
+-- written over a part of the buffer
+pub text_over :
+    (l part xs : List ℕ) (at k : ℕ) →
+    at + length xs ≤ length l →
+    k ≡ at + length xs - at →
+    part ≡ xs →
+    put_mid at k l part ≡ sets l at xs
+text_over l part xs at k h k-is e =
+    let long : k ≡ length xs = omega (arith, k-is) in
+    rw (long, e, drop-drop (length xs) at l) (sym (append_assoc (take at l) xs (drop (at + length xs) l)) ∙ sym (sets-eq xs l at h))
 
 -- ---- a number
 
@@ -84,29 +83,6 @@ module _ (z : ℤ) (fit : SFits w64 z) where
 
   -- below 0
   module _ (below : lt_z (to_z w64 (of_z w64 z)) (pos 0) ≡ true) where
-    -- the number that the bits turned round have
-    turned : to_z w64 (18446744073709551615 - of_z w64 z) ≡ pos (mag z)
-    turned = go z fit (sign_of_lem true below)
-      where
-        go : (y : ℤ) → SFits w64 y → lt_z y (pos 0) ≡ true → to_z w64 (18446744073709551615 - of_z w64 y) ≡ pos (mag y)
-        go (pos n) f h = absurd (omega (arith, ltb-true n 0 h))
-        go (negsuc n) f h =
-            let low : 18446744073709551615 - of_z w64 (negsuc n) ≡ n = omega (arith, f.sfits) in
-            rw low (rw (lt-ltb n (2 ^ 63) f.sfits))
-
-    pub cast_minus : T (non_neg (to_z w64 (18446744073709551615 - of_z w64 z))) × Fits w64 (nat_abs (to_z w64 (18446744073709551615 - of_z w64 z)))
-    cast_minus = rw turned (tt, omega (arith, fit.sfits))
-
-    pub add_minus : Fits w64 (nat_abs (to_z w64 (18446744073709551615 - of_z w64 z)) + 1)
-    add_minus = rw turned (omega (arith, fit.sfits))
-
-    pub size_minus : nat_abs (to_z w64 (18446744073709551615 - of_z w64 z)) + 1 ≡ nat_abs z
-    size_minus = ap (λ (y : ℤ). nat_abs y + 1) turned ∙ go z (sign_of_lem true below)
-      where
-        go : (y : ℤ) → lt_z y (pos 0) ≡ true → mag y + 1 ≡ nat_abs y
-        go (pos n) h = absurd (omega (arith, ltb-true n 0 h))
-        go (negsuc n) h = omega arith
-
     pub signed_minus : signed_field z ≡ (32 ∷ 45 ∷ []) ++ decimal (nat_abs z)
     unfolding signed_field
     signed_minus = go z (sign_of_lem true below)
@@ -117,13 +93,6 @@ module _ (z : ℤ) (fit : SFits w64 z) where
 
   -- not below 0
   module _ (above : lt_z (to_z w64 (of_z w64 z)) (pos 0) ≡ false) where
-    pub cast_plus : T (non_neg (to_z w64 (of_z w64 z))) × Fits w64 (nat_abs (to_z w64 (of_z w64 z)))
-    cast_plus = rw (to_z-of_z fit) (go z fit (sign_of_lem false above))
-      where
-        go : (y : ℤ) → SFits w64 y → lt_z y (pos 0) ≡ false → T (non_neg y) × Fits w64 (nat_abs y)
-        go (pos n) f h = (tt, omega (arith, f.sfits))
-        go (negsuc n) f h = absurd (false≢true (sym h))
-
     pub signed_plus : signed_field z ≡ field (nat_abs z)
     unfolding signed_field
     signed_plus = go z (sign_of_lem false above)

@@ -1,11 +1,11 @@
-// What all printed lines share: texts, numbers, fields and line feeds, and the line of a refusal, into a lent array.
+// What all printed lines share: texts, numbers, fields and line feeds, and the line of a refusal, into a lent array. Numbers are spelled here and not by
+// Display, since the library allocates nothing and a line goes to its place in the array (docs/DECISIONS.md, 40).
 #![tactic(auto)]
 
-ghost use Rattle.std.specs.Prelude.{◌≡◌, ◌+◌, ◌≤◌, [], ◌∷◌, nat_abs, length};
+ghost use Rattle.std.specs.Prelude.{◌≡◌, ◌+◌, ◌≤◌, [], ◌∷◌, length};
 ghost use Rattle.std.proofs.lemmas.List.Edits.{sets};
 ghost use Rattle.texts.specs.Texts.{decimal, field, signed_field, line_of, refused_line, in_front};
 
-use network::refusal;
 use network::refusal::Refusal;
 
 // A fixed text.
@@ -14,12 +14,9 @@ pub fn put_text(out: &mut [u8], at: usize, text: &[u8]) -> usize
     ensures value { result ≡ at + length text.now }
     ensures out_after { out.new ≡ sets out.old at text.now }
 {
-    let mut i: usize = 0;
-    while i < text.len() {
-        out[at + i] = text[i];
-        i += 1;
-    }
-    at + i
+    let end = at + text.len();
+    out[at..end].copy_from_slice(text);
+    end
 }
 
 // A number in base ten, without leading zeros.
@@ -47,23 +44,13 @@ pub fn put_field(out: &mut [u8], at: usize, n: u64) -> usize
     put_number(out, at + 1, n)
 }
 
-// The size of a signed number: where it is below 0, its bits turned round are one less.
-fn size_of(n: i64) -> u64
-    ensures { result ≡ nat_abs n }
-{
-    if n < 0 {
-        return !n as u64 + 1;
-    }
-    n as u64
-}
-
 // A blank and a signed number.
 pub fn put_signed(out: &mut [u8], at: usize, n: i64) -> usize
     requires { at + length (signed_field n) ≤ length out.old }
     ensures value { result ≡ at + length (signed_field n) }
     ensures out_after { out.new ≡ sets out.old at (signed_field n) }
 {
-    let size = size_of(n);
+    let size = n.unsigned_abs();
     if n < 0 {
         let next = put_text(out, at, b" -");
         return put_number(out, next, size);
@@ -101,8 +88,7 @@ pub fn put_refused(out: &mut [u8], at: usize, refused: Refusal) -> usize
     ensures value { result ≡ at + length (refused_line refused) }
     ensures out_after { out.new ≡ sets out.old at (refused_line refused) }
 {
-    let rule = refused.rule;
-    let number = refusal::number(rule) as u64;
+    let number = u8::from(refused.rule) as u64;
     let place = refused.place as u64;
     put_line(out, at, b"REFUSED", number, place)
 }

@@ -16,7 +16,7 @@ use Rattle.feeding.specs.Plans.{Step}
 use Rattle.file_plan.specs.declared.plan.Plan.{Plan}
 use Rattle.plan_form.specs.Printing.{steps_of}
 use Rattle.network.specs.Refusals.{pick}
-use Rattle.file_writer.specs.declared.Written.TheVariants as Written·
+use Rattle.std.specs.Prelude.{Result, Ok, Err}
 use Rattle.file_writer.specs.Writing.{plan_bytes, plan_length, written, buffer_after}
 use Rattle.file_writer.proofs.Files.{plan_bytes_length}
 use Rattle.plan_sums.specs.declared.Sums.{Sums}
@@ -89,7 +89,7 @@ module _ (s : List ℕ) (bytes : Bytes s) (q : List Step) (cost : ℕ) (l : Sums
         ∙ fits (plan_length (outcome s).plan) found_for.long
       where
         fits : (n : ℕ) → n ≡ length (plan_file_of q)
-            → reply_written planned (pick (ltb (length before) n) (Written·.Refused (record { rule = BufferTooShort; place = n })) (Written·.Bytes n)) ≡ Reply·.Plan planned
+            → reply_written planned (pick {A = Result ℕ Refusal} (ltb (length before) n) (Err (record { rule = BufferTooShort; place = n })) (Ok n)) ≡ Reply·.Plan planned
         fits n e = rw (e, le-ltb (length before) (length (plan_file_of q)) room)
 
     -- rule 19
@@ -100,7 +100,7 @@ module _ (s : List ℕ) (bytes : Bytes s) (q : List Step) (cost : ℕ) (l : Sums
         ∙ fails (plan_length (outcome s).plan) found_for.long
       where
         fails : (n : ℕ) → n ≡ length (plan_file_of q)
-            → reply_written planned (pick (ltb (length before) n) (Written·.Refused (record { rule = BufferTooShort; place = n })) (Written·.Bytes n))
+            → reply_written planned (pick {A = Result ℕ Refusal} (ltb (length before) n) (Err (record { rule = BufferTooShort; place = n })) (Ok n))
             ≡ Reply·.Refused (record { rule = BufferTooShort; place = length (plan_file_of q) })
         fails n e = rw (e, lt-ltb (length before) (length (plan_file_of q)) short)
 

@@ -9,17 +9,14 @@ use Prim.Native.Nat.{ℕ, ◌≤◌}
 use lib.ListN.{length, take, drop}
 use lib.Seq.{take_at}
 use Rattle.network.specs.declared.Network.{Network}
-use Rattle.network.specs.Networks.{empty_network}
 use Rattle.network.specs.declared.refusal.Refusal.{Refusal}
-use Rattle.network.specs.declared.refusal.Answer.TheVariants.{Accepted, Refused}
+use Rattle.std.specs.Prelude.{Ok, Err}
 use Rattle.file_stages.specs.declared.Stage.{Stage}
 use Rattle.file_stages.specs.declared.Stage.TheVariants.{Links}
-use Rattle.file_records.specs.declared.Found.TheVariants as Found·
-use Rattle.file_fields.specs.declared.Seen.{Seen}
-use Rattle.file_records.specs.Records.{kind_field, length_field, due_at}
+use Rattle.file_fields.specs.Views.{Seen}
+use Rattle.file_records.specs.Records.{recorded, kind_field, length_field, due_at}
 use Rattle.file_network.specs.Inputs.{network_input, network_read}
 use Rattle.file_plan.specs.declared.plan.Plan.{Plan}
-use Rattle.file_plan.specs.PlanFiles.{empty_plan}
 use Rattle.file_both.specs.Inputs.{both_input, both_read}
 use Rattle.feeding.specs.Plans.{Step}
 use Rattle.texts.specs.Texts.{refused_line, in_front}
@@ -36,7 +33,7 @@ use Rattle.file_refusals.specs.Seeing.{SeesSwitches}
 use Rattle.file_refusals.specs.Stated.{NetworkOf, BothOf}
 use Rattle.file_refusals.proofs.Record.{own_told, record_refused}
 use Rattle.file_refusals.proofs.Record as Record
-use Rattle.file_refusals.proofs.Reading.{network_handed_out, network_read_lem, both_handed_out, both_read_lem}
+use Rattle.file_refusals.proofs.Reading.{network_unread, network_read_lem, both_unread, both_read_lem}
 use Rattle.theorems.proofs.Answers as Answers
 use Rattle.theorems.proofs.Exactly as Exactly
 use Rattle.theorems.proofs.Lengths as Lengths
@@ -74,26 +71,26 @@ module _ (s : List ℕ) where
 
   -- the readers, by the contracts of `read_network` and `read_network_and_plan`: what the files state, or the first of
   -- rules 1 to 13 and 20 that is broken. "A refusal hands out no plan, mark or partial network."
-  pub network_stated : (n : Network) → (network_read (network_input s) ≡ record { answer = Accepted; net = n }) ↔ NetworkOf s n
+  pub network_stated : (n : Network) → (network_read (network_input s) ≡ Ok n) ↔ NetworkOf s n
   network_stated = network_read_lem s
 
-  pub network_broken : (f : Refusal) → (network_read (network_input s) ≡ record { answer = Refused f; net = empty_network }) ↔ FirstBroken s f
-  network_broken = network_handed_out s
+  pub network_broken : (f : Refusal) → (network_read (network_input s) ≡ Err f) ↔ FirstBroken s f
+  network_broken = network_unread s
 
-  pub both_stated : (n : Network) (p : Plan) → (both_read (both_input s) ≡ record { answer = Accepted; net = n; plan = p }) ↔ BothOf s n p
+  pub both_stated : (n : Network) (p : Plan) → (both_read (both_input s) ≡ Ok (record { net = n; plan = p })) ↔ BothOf s n p
   both_stated = both_read_lem s
 
-  pub both_broken : (f : Refusal) → (both_read (both_input s) ≡ record { answer = Refused f; net = empty_network; plan = empty_plan }) ↔ FirstBrokenBoth s f
-  both_broken = both_handed_out s
+  pub both_broken : (f : Refusal) → (both_read (both_input s) ≡ Err f) ↔ FirstBrokenBoth s f
+  both_broken = both_unread s
 
-  -- and the record reader, by the contracts of `record_due` and `Reader::due`: at an offset where a record is due, the first rule that it breaks, with the offset as its
+  -- and the record reader, by the contracts of `due_at` and `Reader::due`: at an offset where a record is due, the first rule that it breaks, with the offset as its
   -- place, or its kind and length, and the stage that follows; where links stand, what is seen tells which switches stand before it
   pub record_broken : (seen : Seen) (at : ℕ) (stage : Stage) → (stage ≡ Links → SeesSwitches s seen.elements at seen) → (f : Refusal)
-      → (due_at s seen at stage ≡ Found·.Refused f) ↔ (BreaksFirst s seen.elements seen.links at stage f.rule × (f.place ≡ at))
+      → (due_at s seen at stage ≡ Err f) ↔ (BreaksFirst s seen.elements seen.links at stage f.rule × (f.place ≡ at))
   record_broken seen at stage sees = record_refused s seen.elements seen.links at stage seen (own_told s seen at stage sees)
 
   pub record_found : (seen : Seen) (at : ℕ) (stage : Stage) → (stage ≡ Links → SeesSwitches s seen.elements at seen)
-      → (kind long : ℕ) (next : Stage) → (due_at s seen at stage ≡ Found·.Record kind long next)
+      → (kind long : ℕ) (next : Stage) → (due_at s seen at stage ≡ recorded kind long next)
       ↔ (Keeps s seen.elements seen.links at stage × (kind ≡ kind_field s at) × (long ≡ length_field s at) × ComesNext stage kind next)
   record_found seen at stage sees = Record.record_found s seen.elements seen.links at stage seen (own_told s seen at stage sees)
 

@@ -8,14 +8,13 @@ use native.Mathlib.Omega.{arith}
 use lib.ListN.{length}
 use Rattle.network.specs.declared.Network.{Network}
 use Rattle.network.specs.declared.refusal.Refusal.{Refusal}
-use Rattle.network.specs.declared.refusal.Answer.TheVariants.{Accepted, Refused}
+use Rattle.std.specs.Prelude.{Ok, Err}
 use Rattle.file_network.specs.Runs.{Reading, refused, reached}
-use Rattle.file_network.specs.declared.NetworkRead.{NetworkRead}
 use Rattle.file_network.specs.Inputs.{network_input, network_read}
 use Rattle.file_network.proofs.Sizes.{network_most}
 use Rattle.file_plan.specs.declared.plan.Plan.{Plan}
-use Rattle.file_both.specs.declared.BothRead.{BothRead}
-use Rattle.file_both.specs.Inputs.{both_input, both_read}
+use Rattle.file_both.specs.declared.Both.{Both}
+use Rattle.file_both.specs.Inputs.{both_of, both_input, both_read}
 use Rattle.file_both.proofs.Sizes.{both_most}
 use Rattle.feeding.specs.Networks.{net_of}
 use Rattle.feeding.specs.Plans.{Step, ValidPlan}
@@ -158,28 +157,25 @@ module _ (s : List ℕ) where
   pub plan_once : (n m : Network) (q r : List Step) → AcceptedPlan s n q → AcceptedPlan s m r → (n ≡ m) × (q ≡ r)
   plan_once n m q r a b =
       let same = sym ((both_read_lem s n a.plan).1 a.files) ∙ (both_read_lem s m b.plan).1 b.files in
-      (ap (λ (x : BothRead). x.net) same, a.steps ∙ ap (λ (x : BothRead). steps_of x.plan) same ∙ sym b.steps)
+      let both : both_of (n, a.plan) ≡ both_of (m, b.plan) = cc in
+      (ap (λ (x : Both). x.net) both, a.steps ∙ ap (λ (x : Both). steps_of x.plan) both ∙ sym b.steps)
 
 -- ---- how long accepted input is
 
 pub accepted_most : (s : List ℕ) (n : Network) → AcceptedNetwork s n → length s ≤ 2252
-unfolding network_read
 accepted_most s n a = go (network_input s) refl ((network_read_lem s n).1 a.file)
   where
-    go : (o : Reading Network) → network_input s ≡ o → network_read o ≡ record { answer = Accepted; net = n } → length s ≤ 2252
+    go : (o : Reading Network) → network_input s ≡ o → network_read o ≡ Ok n → length s ≤ 2252
     go (refused f) e k =
-        let same : Refused f ≡ Accepted = ap (λ (r : NetworkRead). r.answer) k in
         let z : ◌≡◌ {A = ℕ} 0 1 = cc in
         absurd (omega arith)
     go (reached at stage m) e k = network_most s at stage m e
 
 pub accepted_plan_most : (s : List ℕ) (n : Network) (q : List Step) → AcceptedPlan s n q → length s ≤ 4302
-unfolding both_read
 accepted_plan_most s n q a = go (both_input s) refl ((both_read_lem s n a.plan).1 a.files)
   where
-    go : (o : Reading (Network × Plan)) → both_input s ≡ o → both_read o ≡ record { answer = Accepted; net = n; plan = a.plan } → length s ≤ 4302
+    go : (o : Reading (Network × Plan)) → both_input s ≡ o → both_read o ≡ Ok (both_of (n, a.plan)) → length s ≤ 4302
     go (refused f) e k =
-        let same : Refused f ≡ Accepted = ap (λ (r : BothRead). r.answer) k in
         let z : ◌≡◌ {A = ℕ} 0 1 = cc in
         absurd (omega arith)
     go (reached at stage x) e k = both_most s at stage x.0 x.1 e

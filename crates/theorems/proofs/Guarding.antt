@@ -13,8 +13,7 @@ use borrow.Author.Tests.{eqb-true, eqb-false}
 use Rattle.network.specs.declared.refusal.Rule.{Rule}
 use Rattle.network.specs.declared.refusal.Rule.TheVariants.{KindOutOfPlace, UnknownForm, ByteAfterEnd, BadGuard}
 use Rattle.network.specs.declared.refusal.Refusal.{Refusal}
-use Rattle.network.specs.declared.refusal.Answer.{Answer}
-use Rattle.network.specs.declared.refusal.Answer.TheVariants.{Accepted, Refused}
+use Rattle.std.specs.Prelude.{Result, Ok, Err}
 use Rattle.network.specs.Refusals.{position, Sooner, rule_number}
 use Rattle.file_stages.specs.declared.Stage.{Stage}
 use Rattle.file_stages.specs.declared.Stage.TheVariants.{Head, Elements, Links, End, PlanHead, Steps, PlanEnd}
@@ -102,15 +101,15 @@ among : {A : Type 0} (r : Rule) → 13 ≤ rule_number r → rule_number r ≤ 1
 among r low high (inl h) = absurd (omega arith)
 among r low high (inr h) = absurd (omega arith)
 
-answered_number : (net : Net) (f : Refusal) → Answered net (Refused f)
+answered_number : (net : Net) (f : Refusal) → Answered net (Err f)
     → (13 ≤ rule_number f.rule) × (rule_number f.rule ≤ 18)
 answered_number net f h = go _ h refl
   where
-    held : Answer → ℕ
-    held Accepted = 0
-    held (Refused g) = rule_number g.rule
+    held : Result Unit Refusal → ℕ
+    held (Ok u) = 0
+    held (Err g) = rule_number g.rule
 
-    go : (a : Answer) → Answered net a → a ≡ Refused f → (13 ≤ rule_number f.rule) × (rule_number f.rule ≤ 18)
+    go : (a : Result Unit Refusal) → Answered net a → a ≡ Err f → (13 ≤ rule_number f.rule) × (rule_number f.rule ≤ 18)
     go _ (Acceptance.not_a_tree _ _) e = (omega (arith, ap held e), omega (arith, ap held e))
     go _ (Acceptance.two_sources _ _ _) e = (omega (arith, ap held e), omega (arith, ap held e))
     go _ (Acceptance.fault_with_source _ _ _ _) e = (omega (arith, ap held e), omega (arith, ap held e))

@@ -10,8 +10,7 @@ use Rattle.network.specs.declared.Network.{Network}
 use Rattle.network.specs.declared.refusal.Refusal.{Refusal}
 use Rattle.network.specs.declared.refusal.Rule.{Rule}
 use Rattle.network.specs.declared.refusal.Rule.TheVariants.{RecordMissing, KindOutOfPlace, WrongLength, RecordCutOff, HeadOutOfRange, UnknownFlags, BadEnds, UnknownForm, UnsuitedCost, TooManySteps, UnknownLink, UnknownState, ByteAfterEnd, NotATree, TwoSources, FaultWithSource, Overloaded, TooManyOperable, BufferTooShort, BadGuard}
-use Rattle.network.specs.declared.refusal.Answer.{Answer}
-use Rattle.network.specs.declared.refusal.Answer.TheVariants.{Accepted, Refused}
+use Rattle.std.specs.Prelude.{Result, Ok, Err}
 use Rattle.network.specs.Accepted.{WellFormed}
 use Rattle.network.specs.Refusals.{rule_number}
 use Rattle.file_stages.specs.declared.Stage.{Stage}
@@ -159,14 +158,14 @@ module _ (n : Network) (w : WellFormed n) where
         links_few,
       )
 
-  answered_within : (f : Refusal) → Answered (net_of n) (Refused f) → f.place ≤ 96
+  answered_within : (f : Refusal) → Answered (net_of n) (Err f) → f.place ≤ 96
   answered_within f h = go _ h refl
     where
-      held : Answer → ℕ
-      held Accepted = 0
-      held (Refused g) = g.place
+      held : Result Unit Refusal → ℕ
+      held (Ok u) = 0
+      held (Err g) = g.place
 
-      go : (a : Answer) → Answered (net_of n) a → a ≡ Refused f → f.place ≤ 96
+      go : (a : Result Unit Refusal) → Answered (net_of n) a → a ≡ Err f → f.place ≤ 96
       go _ (Acceptance.not_a_tree lt _) e = omega (arith, ap held e, lt, elements_few)
       go _ (Acceptance.two_sources _ lt _) e = omega (arith, ap held e, lt, elements_few)
       go _ (Acceptance.fault_with_source _ _ lt _) e = omega (arith, ap held e, lt, elements_few)
@@ -267,7 +266,7 @@ module _ (s : List ℕ) (bytes : Bytes s) (short : length s ≤ decides) where
   unfolding mark_line
   mark_length n q m a h = go m h
     where
-      formed : BothFormed (record { answer = Accepted; net = n; plan = a.plan })
+      formed : BothFormed (record { net = n; plan = a.plan })
       formed = files_formed s bytes n a.plan a.files
 
       steps : length q ≤ 255

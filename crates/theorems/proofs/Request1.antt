@@ -15,15 +15,15 @@ use Rattle.network.specs.declared.refusal.Rule.TheVariants.{KindOutOfPlace, Wron
 use Rattle.file_stages.specs.declared.Stage.{Stage}
 use Rattle.file_stages.specs.declared.Stage.TheVariants.{Head, Elements, Links, End, PlanHead, Steps, PlanEnd, Over}
 use Rattle.file_stages.specs.Stages.{next_stage}
-use Rattle.file_fields.specs.declared.Seen.{Seen}
+use Rattle.file_fields.specs.Views.{Seen}
 use Rattle.file_fields.specs.Fields.{word, wide_word, length_of}
-use Rattle.file_records.specs.declared.Found.TheVariants as Found·
 use Rattle.file_records.specs.Records.{kind_field, length_field, due_by, due_at}
 use Rattle.file_records.proofs.Known as Known
 use Rattle.file_network.specs.Runs.{refused}
 use Rattle.file_network.specs.Inputs.{network_input_by}
-use Rattle.file_both.specs.declared.BothRead.{BothRead}
-use Rattle.file_network.specs.declared.NetworkRead.{NetworkRead}
+use Rattle.std.specs.Prelude.{Result, Err}
+use Rattle.network.specs.declared.refusal.Refusal.{Refusal}
+use Rattle.file_both.specs.declared.Both.{Both}
 use Rattle.file_both.specs.Inputs.{both_input_by}
 use Rattle.file_refusals.proofs.Record.{comes_next, in_table, length_only}
 use Rattle.file_refusals.specs.Breaking.{ComesNext, KindLength, Lead, wide_element_lem, StatesElement, narrow, wide, BreaksRule}
@@ -132,7 +132,7 @@ pub known_record : (s : List ℕ) (seen : Seen) (at : ℕ) (stage : Stage) → d
 known_record = Known.known_record document_one
 
 pub unknown_record : (s : List ℕ) (seen : Seen) (at : ℕ) (stage : Stage) → document_one (kind_field s at) ≡ false
-    → at + 4 ≤ length s → due_by document_one s seen at stage ≡ Found·.Refused (record { rule = KindOutOfPlace; place = at })
+    → at + 4 ≤ length s → due_by document_one s seen at stage ≡ Err (record { rule = KindOutOfPlace; place = at })
 unknown_record s seen at stage h four =
     Known.unknown_record document_one s seen at stage h (le-ltb (length s - at) 4 (omega arith))
 
@@ -169,11 +169,11 @@ module _ (s : List ℕ) where
 module _ (s t : List ℕ) (rewritten : Widenings s t) where
   pub library_narrow_as_wide : KeepsNetwork s → outcome t ≡ outcome s
   unfolding outcome_by
-  library_narrow_as_wide keeps = ap (λ (r : NetworkRead). outcome_read (accepted_read r)) (all_network s t rewritten keeps)
+  library_narrow_as_wide keeps = ap (λ (r : Result Network Refusal). outcome_read (accepted_read r)) (all_network s t rewritten keeps)
 
   pub planner_narrow_as_wide : KeepsNetwork s → plan_text t ≡ plan_text s
   planner_narrow_as_wide keeps = ap lines_of (library_narrow_as_wide keeps)
 
   pub judge_narrow_as_wide : KeepsBoth s → mark_text t ≡ mark_text s
   unfolding mark_for_by
-  judge_narrow_as_wide keeps = ap (λ (r : BothRead). mark_line (mark_of_read r)) (all_both s t rewritten keeps)
+  judge_narrow_as_wide keeps = ap (λ (r : Result Both Refusal). mark_line (mark_of_read r)) (all_both s t rewritten keeps)

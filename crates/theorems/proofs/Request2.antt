@@ -20,9 +20,9 @@ use Rattle.network.proofs.Order.{guard_after_cost}
 use Rattle.file_stages.specs.declared.Stage.{Stage}
 use Rattle.file_stages.specs.declared.Stage.TheVariants.{Head, Elements, Links, End, PlanHead, Steps, PlanEnd, Over}
 use Rattle.file_stages.specs.Stages.{next_stage}
-use Rattle.file_fields.specs.declared.Seen.{Seen}
+use Rattle.file_fields.specs.Views.{Seen}
 use Rattle.file_fields.specs.Fields.{word, length_of}
-use Rattle.file_records.specs.declared.Found.TheVariants as Found·
+use Rattle.std.specs.Prelude.{Err}
 use Rattle.file_records.specs.Records.{kind_field, length_field, due_by, due_at}
 use Rattle.file_records.proofs.Known as Known
 use Rattle.file_network.specs.Runs.{refused}
@@ -261,7 +261,7 @@ pub known_record : (s : List ℕ) (seen : Seen) (at : ℕ) (stage : Stage) → i
 known_record = Known.known_record item_one
 
 pub unknown_record : (s : List ℕ) (seen : Seen) (at : ℕ) (stage : Stage) → kind_field s at ≡ 8 → at + 4 ≤ length s
-    → due_by item_one s seen at stage ≡ Found·.Refused (record { rule = KindOutOfPlace; place = at })
+    → due_by item_one s seen at stage ≡ Err (record { rule = KindOutOfPlace; place = at })
 unknown_record s seen at stage h four = Known.unknown_record item_one s seen at stage (ap item_one h) (le-ltb (length s - at) 4 (omega arith))
 
 module _ (s : List ℕ) where

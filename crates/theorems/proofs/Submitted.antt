@@ -7,11 +7,10 @@ use Prim.Native.Nat.{ℕ, zero, suc, ◌+◌, ◌≤◌}
 use native.Mathlib.Omega.{arith}
 use lib.ListN.{length}
 use Rattle.network.specs.declared.Network.{Network}
-use Rattle.network.specs.declared.refusal.Answer.TheVariants.{Accepted, Refused}
+use Rattle.std.specs.Prelude.{Ok}
 use Rattle.network.specs.Accepted.{WellFormed}
 use Rattle.file_stages.specs.declared.Stage.{Stage}
 use Rattle.file_stages.specs.declared.Stage.TheVariants.{Over}
-use Rattle.file_network.specs.declared.NetworkRead.{NetworkRead}
 use Rattle.file_network.specs.Runs.{Reading, refused, reached}
 use Rattle.file_network.specs.NetworkFiles.{network_file}
 use Rattle.file_network.specs.Inputs.{network_input, network_read}
@@ -36,11 +35,11 @@ use Rattle.plan_outcome.proofs.Promises.{outcome_kept}
 use Rattle.judge_marks.specs.declared.Mark.TheVariants as Mark·
 use Rattle.judge_marks.specs.Marks.{mark_of}
 use Rattle.judge_marks.proofs.Marking.{promised_marked}
-use Rattle.judge.specs.Judging.{mark_accepted, mark_read, mark_of_read, mark_for, mark_for_by}
+use Rattle.judge.specs.Judging.{mark_accepted, mark_of_read, mark_for, mark_for_by}
 use Rattle.plan_outcome.specs.declared.Planned.{Planned}
 use Rattle.plan_outcome.specs.declared.Reply.TheVariants as Reply·
 use Rattle.plan_outcome.specs.declared.Outcome as Outcomes·
-use Rattle.plan_outcome.specs.Outcomes.{outcome_with, outcome_without, outcome_from, outcome_for, outcome_of, outcome_answered, outcome_read, outcome, outcome_by}
+use Rattle.plan_outcome.specs.Outcomes.{outcome_with, outcome_without, outcome_from, outcome_for, outcome_of, outcome_read, outcome, outcome_by}
 use Rattle.file_refusals.proofs.Reading.{file_formed, network_read_lem, both_read_lem}
 use Rattle.feeding_acceptance.specs.Reading.{Bytes, AcceptedNetwork}
 use Rattle.judge.specs.Judging.{AcceptedPlan}
@@ -69,7 +68,7 @@ chosen_formed n w (chosen D) p e =
 
 module _ (s : List ℕ) (bytes : Bytes s) (n : Network) (a : AcceptedNetwork s n) where
   outcome_is : outcome s ≡ outcome_of n
-  unfolding outcome_by outcome_read outcome_answered start_with
+  unfolding outcome_by outcome_read start_with
   outcome_is = ap outcome_read (sym (admission_only s bytes _ (Admissions.accepted n a)))
 
   plan_formed : (p : Planned) → (outcome s).reply ≡ Reply·.Plan p → WellFormedPlan n.links (outcome s).plan
@@ -79,17 +78,16 @@ module _ (s : List ℕ) (bytes : Bytes s) (n : Network) (a : AcceptedNetwork s n
       (chosen_formed n (file_formed s bytes n a.file) (planned (net_of n)) p (ap (λ (o : Outcomes·.Outcome). o.reply) (sym outcome_is) ∙ e))
 
   file_read : (last : Stage) × (network_file s ≡ reached (length s) last n)
-  unfolding network_read
   file_read = go (network_input s) refl ((network_read_lem s n).1 a.file)
     where
-      go : (o : Reading Network) → network_input s ≡ o → network_read o ≡ record { answer = Accepted; net = n } → (last : Stage) × (network_file s ≡ reached (length s) last n)
+      go : (o : Reading Network) → network_input s ≡ o → network_read o ≡ Ok n → (last : Stage) × (network_file s ≡ reached (length s) last n)
       go (refused f) e k =
-          let same : Refused f ≡ Accepted = ap (λ (x : NetworkRead). x.answer) k in
           let z : ◌≡◌ {A = ℕ} 0 1 = cc in
           absurd (omega arith)
       go (reached end last m) e k =
           let size = network_input_size s end last m e in
-          (last, size.0 ∙ ap₂ (λ (l : ℕ) (x : Network). reached l last x) (sym size.1) (ap (λ (x : NetworkRead). x.net) k))
+          let same : m ≡ n = cc in
+          (last, size.0 ∙ ap₂ (λ (l : ℕ) (x : Network). reached l last x) (sym size.1) same)
 
   module _ (p : Plan) (formed : WellFormedPlan n.links p) where
     both_is : both_input (s ++ plan_bytes p) ≡ reached (length s + plan_length p) Over (n, first_steps p p.steps)
@@ -104,7 +102,6 @@ module _ (s : List ℕ) (bytes : Bytes s) (n : Network) (a : AcceptedNetwork s n
         (first_same p (omega (arith, formed.steps_fit, formed.link_long)) (omega (arith, formed.steps_fit, formed.close_long)))
 
     plan_submitted : AcceptedPlan (s ++ plan_bytes p) n (steps_of p)
-    unfolding both_read
     plan_submitted = record {
       plan = first_steps p p.steps;
       files = (both_read_lem (s ++ plan_bytes p) n (first_steps p p.steps)).0 (ap both_read both_is);
@@ -114,10 +111,10 @@ module _ (s : List ℕ) (bytes : Bytes s) (n : Network) (a : AcceptedNetwork s n
 
     -- it is marked as its steps are
     plan_marked : mark_for (s ++ plan_bytes p) ≡ mark_of (net_of n) (steps_of p)
-    unfolding mark_for_by mark_of_read mark_read mark_accepted both_read
+    unfolding mark_for_by mark_of_read mark_accepted
     plan_marked =
         ap (λ (o : Reading (Network × Plan)). mark_of_read (both_read o)) both_is
-        ∙ ap (mark_accepted n (first_steps p p.steps)) (sym (answered_network n (file_formed s bytes n a.file) Accepted a.kept))
+        ∙ ap (mark_accepted n (first_steps p p.steps)) (sym (answered_network n (file_formed s bytes n a.file) (Ok tt) a.kept))
         ∙ ap (mark_of (net_of n)) steps_back
 
   -- the plan that was found

@@ -1,5 +1,6 @@
 -- Rules 14 to 17, then 18: the first answer that refuses, or the start.
 use mathlib.Core.Path.{refl, ap, ◌∙◌}
+use Rattle.std.proofs.lemmas.Result.{err_from_is_err_and}
 use Rattle.feeding_parts.specs.declared.Parts.{Parts}
 use Rattle.feeding_restoration.proofs.Reach.{bits_long, network_ends}
 use Rattle.feeding_restoration.proofs.Sets.{closed_is, sound_is, faulty_is}
@@ -19,8 +20,8 @@ parts_of-parts-requires c =
     let pre· = c.requires in
     network_ends the-args.net pre· _ (bits_long _ _ _ c.members_of-closed.ensures)
 
-pub check-safe-requires : goal.check-safe-requires
-check-safe-requires c =
+pub check-requires : goal.check-requires
+check-requires c =
     let pre· = c.requires in
     record { well_formed = pre·; own_value = c.own_ends-own.ensures; closed_len = bits_long _ _ _ c.members_of-closed.ensures; sound_value = c.members_of-sound.ensures; faulty_value = c.members_of-faulty.ensures; parts_value = c.parts_of-parts.ensures }
 
@@ -36,14 +37,15 @@ within_limit-requires c =
     let pre· = c.requires in
     record { well_formed = start_formed the-args.net pre· c.start_of-start.result c.start_of-start.ensures; start_value = start_made the-args.net c.start_of-start.result c.start_of-start.ensures }
 
-pub returns-in-Refused : goal.returns-in-Refused
-returns-in-Refused c =
+pub returns-in_err-check : goal.returns-in_err-check
+returns-in_err-check c =
     let the-args = c.args in
     let pre· = c.requires in
-    c.refused.ensures ∙ unsafe_answer the-args.net c.check-safe.result (c.check-safe.ensures ∙ start_safety the-args.net pre· _ (c.members_of-closed.ensures ∙ closed_is the-args.net pre·)) _ c.in-Refused.is
+    let p = err_from_is_err_and c.from_residual.result c.from_residual.ensures.1 in
+    rw (p.1, p.2) (unsafe_answer the-args.net c.check.result (c.check.ensures ∙ start_safety the-args.net pre· _ (c.members_of-closed.ensures ∙ closed_is the-args.net pre·)) _ c.in_err-check.was)
 
-pub returns-in-Accepted : goal.returns-in-Accepted
-returns-in-Accepted c =
+pub returns : goal.returns
+returns c =
     let the-args = c.args in
     let pre· = c.requires in
-    safe_answer the-args.net c.check-safe.result (c.check-safe.ensures ∙ start_safety the-args.net pre· _ (c.members_of-closed.ensures ∙ closed_is the-args.net pre·)) _ c.in-Accepted.is (c.within_limit.ensures ∙ start_answer the-args.net c.start_of-start.result c.start_of-start.ensures)
+    safe_answer the-args.net c.check.result (c.check.ensures ∙ start_safety the-args.net pre· _ (c.members_of-closed.ensures ∙ closed_is the-args.net pre·)) _ _ c.in_ok-check.was (c.within_limit.ensures ∙ start_answer the-args.net c.start_of-start.result c.start_of-start.ensures)

@@ -22,7 +22,7 @@ pub returns-then-limit-count : goal.returns-then-limit-count
 returns-then-limit-count c =
     let the-args = c.args in
     let pre· = (both c.requires.well_formed c.requires.start_value) in
-    c.refused.ensures ∙ over_limit the-args.start pre·.1 the-args.limit c.count_of-count.result (c.count_of-count.ensures ∙ ap length (operables_are the-args.start.net pre·.0 _ (operable_of the-args.start _ pre·.1))) (omega (arith, c.if-limit-count))
+    over_limit the-args.start pre·.1 the-args.limit c.count_of-count.result (c.count_of-count.ensures ∙ ap length (operables_are the-args.start.net pre·.0 _ (operable_of the-args.start _ pre·.1))) (omega (arith, c.if-limit-count))
 
 pub returns : goal.returns
 returns c =

@@ -8,7 +8,7 @@ use Rattle.feeding_ends.proofs.own_ends.Goals as goal
 
 pub loop-l-init : goal.loop-l-init
 loop-l-init c = let the-args = c.args in
-    (omega arith, chained_start (at the-args.from.now) (at the-args.to.now) (is_in the-args.has.now) the-args.links (omega arith))
+    chained_start (at the-args.from.now) (at the-args.to.now) (is_in the-args.has.now) the-args.links (omega arith)
 
 pub overflow_cast-a : goal.overflow_cast-a
 overflow_cast-a c = omega (arith, c.type_inv.from (c.loop-l.l - 1))
@@ -45,24 +45,20 @@ bounds-head-a-then-has-l-eq1 c = let pre· = c.requires in
 pub loop-l-preserved-then-has-l-eq1 : goal.loop-l-preserved-then-has-l-eq1
 loop-l-preserved-then-has-l-eq1 c = let the-args = c.args in
     let loop· = c.loop-l in
-    let pre· = c.requires in (
-      omega arith,
-      turn_in the-args.from.now the-args.to.now the-args.has.now the-args.links loop·.l loop·.head loop·.next loop·.far pre· (omega arith) (omega arith)
-          loop·.invariant.1 _ _ (omega arith) (omega arith) (omega arith),
-    )
+    let pre· = c.requires in
+    turn_in the-args.from.now the-args.to.now the-args.has.now the-args.links loop·.l loop·.head loop·.next loop·.far pre· (omega arith) (omega arith)
+    loop·.invariant _ _ (omega arith) (omega arith) (omega arith)
 
 pub loop-l-preserved : goal.loop-l-preserved
 loop-l-preserved c = let the-args = c.args in
     let loop· = c.loop-l in
-    let pre· = c.requires in (
-      omega arith,
-      turn_out the-args.from.now the-args.to.now the-args.has.now the-args.links loop·.l loop·.head loop·.next loop·.far pre· (omega arith) (omega arith)
-          loop·.invariant.1 (omega arith),
-    )
+    let pre· = c.requires in
+    turn_out the-args.from.now the-args.to.now the-args.has.now the-args.links loop·.l loop·.head loop·.next loop·.far pre· (omega arith) (omega arith)
+    loop·.invariant (omega arith)
 
 pub returns : goal.returns
 returns c = let loop· = c.loop-l in
     let the-args = c.args in
     let done : 2 * loop·.l ≡ 0 = omega arith in
     chained_all (at the-args.from.now) (at the-args.to.now) (is_in the-args.has.now) the-args.links loop·.head loop·.next loop·.far
-    (subst (λ z. Chained (at the-args.from.now) (at the-args.to.now) (is_in the-args.has.now) the-args.links z loop·.head loop·.next loop·.far) done loop·.invariant.1)
+    (subst (λ z. Chained (at the-args.from.now) (at the-args.to.now) (is_in the-args.has.now) the-args.links z loop·.head loop·.next loop·.far) done loop·.invariant)

@@ -10,12 +10,6 @@ returns-then-margin_of-ge0 c =
     let fits = passed a.capacity a.load c.margin_of.result (omega arith) (omega arith) c.margin_of.ensures c.if-margin_of-ge0.true in
     omega (arith, lower_within a.e a.load a.capacity a.over fits)
 
-pub returns-then-e-over : goal.returns-then-e-over
-returns-then-e-over c =
-    let a = c.args in
-    let more = failed a.capacity a.load c.margin_of.result (omega arith) (omega arith) c.margin_of.ensures c.if-margin_of-ge0.false in
-    omega (arith, lower_above a.e a.load a.capacity a.over more)
-
 pub returns : goal.returns
 returns c =
     let a = c.args in

@@ -1,18 +1,19 @@
 -- `tighter` answers by the two margins: as signed numbers, which the machine reads back from their bits.
+use Rattle.std.proofs.Common.{rules}
 use Rattle.feeding_margins.proofs.Scans.{tighter_first, tighter_less, tighter_more}
 use Rattle.feeding_margins.proofs.tighter.Goals as goal
 
-pub returns-in-Nowhere : goal.returns-in-Nowhere
-returns-in-Nowhere c =
+pub returns-in-None : goal.returns-in-None
+returns-in-None c =
     let a = c.args in
-    tighter_first a.spot a.e a.m c.ranges.m c.in-Nowhere.is
+    tighter_first a.spot a.e a.m c.ranges.m c.in-None.is
 
-pub returns-then-m-k : goal.returns-then-m-k
-returns-then-m-k c =
+pub returns-then-m-old : goal.returns-then-m-old
+returns-then-m-old c =
     let a = c.args in
-    tighter_less a.spot a.e a.m c.ranges.m c.in-At.x c.in-At.k c.in-At.is (record { sfits = c.in-At.known_told-1-own.given.1.0.1 }) c.if-m-k.true
+    tighter_less a.spot a.e a.m c.ranges.m c.in-Some.old c.in-Some.is (search rules) c.if-m-old.true
 
-pub returns-in-At : goal.returns-in-At
-returns-in-At c =
+pub returns-in-Some : goal.returns-in-Some
+returns-in-Some c =
     let a = c.args in
-    tighter_more a.spot a.e a.m c.ranges.m c.in-At.x c.in-At.k c.in-At.is (record { sfits = c.in-At.known_told-1-own.given.1.0.1 }) c.if-m-k.false
+    tighter_more a.spot a.e a.m c.ranges.m c.in-Some.old c.in-Some.is (search rules) c.if-m-old.false

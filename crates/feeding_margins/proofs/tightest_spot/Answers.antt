@@ -1,35 +1,35 @@
 -- `tightest_spot` scans the loads that the walks from all sound sources store.
 use native.Mathlib.Omega.{arith}
 use Rattle.feeding_margins.proofs.Whole.{sound_long, lent_all, carries_all, stored_fit, spot_is, spot_told}
-use Rattle.network.proofs.Pairs.{both}
 use Rattle.feeding_margins.proofs.tightest_spot.Goals as goal
 
 pub loads_from-loads-requires : goal.loads_from-loads-requires
 loads_from-loads-requires c =
-    let the-args = c.args in
-    let pre· = (both c.requires.well_formed (both c.requires.own_value (both c.requires.sound_value (both c.requires.closed_len c.requires.safe)))) in record {
-      lent = lent_all the-args.net pre·.0 the-args.own pre·.1.0 the-args.closed.now pre·.1.1.1.0;
-      elements_bound = (omega (arith, pre·.0.elements_fit), sound_long the-args.net pre·.0 the-args.sound.now pre·.1.1.0);
-      carries = carries_all the-args.net pre·.0 the-args.own pre·.1.0 the-args.closed.now pre·.1.1.1.0
-          pre·.1.1.1.1 the-args.sound.now pre·.1.1.0;
+    let a = c.args in
+    let r = c.requires in
+    record {
+      lent = lent_all a.net r.well_formed a.own r.own_value a.closed.now r.closed_len;
+      elements_bound = (omega (arith, r.well_formed.elements_fit), sound_long a.net r.well_formed a.sound.now r.sound_value);
+      carries = carries_all a.net r.well_formed a.own r.own_value a.closed.now r.closed_len
+          r.safe a.sound.now r.sound_value;
     }
 
 pub least_margin-requires : goal.least_margin-requires
 least_margin-requires c =
-    let the-args = c.args in
-    let pre· = (both c.requires.well_formed (both c.requires.own_value (both c.requires.sound_value (both c.requires.closed_len c.requires.safe)))) in
-    stored_fit the-args.net pre·.0 the-args.own pre·.1.0 the-args.closed.now pre·.1.1.1.0
-    pre·.1.1.1.1 the-args.sound.now pre·.1.1.0 c.loads_from-loads.result c.loads_from-loads.ensures
+    let a = c.args in
+    let r = c.requires in
+    stored_fit a.net r.well_formed a.own r.own_value a.closed.now r.closed_len
+    r.safe a.sound.now r.sound_value c.loads_from-loads.result c.loads_from-loads.ensures
 
 pub returns : goal.returns
 returns c =
-    let the-args = c.args in
-    let pre· = (both c.requires.well_formed (both c.requires.own_value (both c.requires.sound_value (both c.requires.closed_len c.requires.safe)))) in
+    let a = c.args in
+    let r = c.requires in
     record {
-      spotted = spot_told the-args.net pre·.0 the-args.own pre·.1.0 the-args.closed.now pre·.1.1.1.0
-          pre·.1.1.1.1 the-args.sound.now pre·.1.1.0
+      spotted = spot_told a.net r.well_formed a.own r.own_value a.closed.now r.closed_len
+          r.safe a.sound.now r.sound_value
           c.loads_from-loads.result c.least_margin.result c.loads_from-loads.ensures c.least_margin.ensures;
-      value = spot_is the-args.net pre·.0 the-args.own pre·.1.0 the-args.closed.now pre·.1.1.1.0
-          pre·.1.1.1.1 the-args.sound.now pre·.1.1.0
+      value = spot_is a.net r.well_formed a.own r.own_value a.closed.now r.closed_len
+          r.safe a.sound.now r.sound_value
           c.loads_from-loads.result c.least_margin.result c.loads_from-loads.ensures c.least_margin.ensures;
     }

@@ -1,21 +1,10 @@
 -- `element_sum` and `link_sum` add up what lies ahead: a walk over the element's own ends, whose last link waits; each call takes one off the depth.
 use Prim.Native.Nat.{◌-◌}
 use mathlib.Core.Path.{◌∙◌}
-use mathlib.Core.Logic.{⊎_elim}
 use native.Mathlib.Omega.{arith}
-use Rattle.feeding_part_sums.proofs.Summing.{Held, begins, own_fits, none, head_read, done, below, next_read, later, opened, came_by, goes_on, roomy, link_no_end, link_none, far_in, link_is}
-use Prim.Native.Nat.{ℕ, ◌<◌}
-use Rattle.feeding.proofs.Pairs.{both}
+use Rattle.feeding_part_sums.proofs.Summing.{begins, own_fits, none, head_read, done, below, next_read, later, opened, came_by, goes_on, roomy, link_no_end, link_none, far_in, link_is}
 use Rattle.feeding_part_sums.proofs.+element_sum_link_sum.Goals as goal
 use Rattle.feeding_part_sums.proofs.+element_sum_link_sum.Goals.{element_sum-else-closed-l-eq1, element_sum-then-closed-l-eq1+else-l-via, element_sum-then-closed-l-eq1+then-l-via}
-
-pub element_sum-offset_bounds-numbers-e : goal.element_sum-offset_bounds-numbers-e
-element_sum-offset_bounds-numbers-e t c =
-    omega (arith, c.requires.sum_lent.few)
-
-pub element_sum-bounds-numbers-e : goal.element_sum-bounds-numbers-e
-element_sum-bounds-numbers-e t c =
-    omega (arith, c.requires.sum_lent.few)
 
 pub element_sum-overflow_cast-own : goal.element_sum-overflow_cast-own
 element_sum-overflow_cast-own t c =
@@ -31,10 +20,6 @@ pub element_sum-returns-then-depth-eq0 : goal.element_sum-returns-then-depth-eq0
 element_sum-returns-then-depth-eq0 t c =
     let the-args = c.args in
     none c.requires.sum_lent (the-args.depth - 1) the-args.e the-args.via the-args.before the-args.depth _ (omega arith) (omega arith)
-
-pub element_sum-bounds-chain-e : goal.element_sum-bounds-chain-e
-element_sum-bounds-chain-e t c =
-    omega (arith, c.requires.sum_lent.few)
 
 pub element_sum-overflow_cast-j : goal.element_sum-overflow_cast-j
 element_sum-overflow_cast-j t c =

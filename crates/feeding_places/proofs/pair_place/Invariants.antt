@@ -1,13 +1,10 @@
 -- The lowest marked element that is not the last of its part: what is left to search gives the whole answer.
 use mathlib.Core.Path.{◌≡◌}
-use Prim.Native.Nat.{◌-◌, ◌≤◌}
+use Prim.Native.Nat.{◌-◌}
 use Rattle.feeding.specs.Below.{lowest, lowest_from}
 use Rattle.feeding_places.specs.Places.{not_last}
 use Rattle.feeding_places.proofs.pair_place.Given as goal
 
 abbrev pub invariant-loop-s : goal.invariant-loop-s
 invariant-loop-s l =
-    (l.s ≤ l.elements) × (lowest_from (l.elements - l.s) l.s (not_last l.label l.sound l.last) ≡ lowest l.elements (not_last l.label l.sound l.last))
-
-abbrev pub decreases-loop-s : goal.decreases-loop-s
-decreases-loop-s l = l.elements - l.s
+    lowest_from (l.elements - l.s) l.s (not_last l.label l.sound l.last) ≡ lowest l.elements (not_last l.label l.sound l.last)

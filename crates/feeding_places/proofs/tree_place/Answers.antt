@@ -1,40 +1,34 @@
 -- The least label of a marked element, kept as the least of those before.
 use mathlib.Core.Path.{◌≡◌, sym, ap, ◌∙◌}
-use mathlib.Core.Logic.{⊎_elim}
-use Prim.Native.Nat.{◌-◌}
 use native.Mathlib.Omega.{arith}
-use Rattle.feeding_places.proofs.Tests.{least_below, least_none, least_all, least_lower, least_kept, least_off}
+use Rattle.feeding.specs.Below.{some_below}
+use Rattle.feeding.proofs.Lows.{some_found, none_found}
+use Rattle.feeding_places.proofs.Tests.{least_below, least_none, least_all, least_on, least_off}
 use Rattle.feeding_places.proofs.tree_place.Goals as goal
-use Rattle.feeding_places.proofs.tree_place.Goals.{else-looped-x-eq1, then-looped-x-eq1+else-k-place, then-looped-x-eq1+then-k-place}
+use Rattle.feeding_places.proofs.tree_place.Goals.{then-looped-x-eq1, else-looped-x-eq1}
 
 pub loop-x-init : goal.loop-x-init
-loop-x-init c =
-    let the-args = c.args in
-    (omega arith, sym (least_none the-args.label.now the-args.looped.now the-args.elements))
-
-pub bounds-looped-x : goal.bounds-looped-x
-bounds-looped-x c = omega (arith, c.requires.looped_long)
-
-pub bounds-label-x : goal.bounds-label-x
-bounds-label-x c =
-    let pre· = c.requires in
-    omega (arith, pre·.label_long)
-
-pub overflow_cast-k : goal.overflow_cast-k
-overflow_cast-k c =
-    let loop· = c.loop-x in
-    omega (arith, c.type_inv.label loop·.x)
+loop-x-init c = sym (least_none c.args.label.now c.args.looped.now c.args.elements)
 
 pub loop-x-preserved : goal.loop-x-preserved
 loop-x-preserved c =
-    let loop· = c.loop-x in
-    let the-args = c.args in (
-      omega arith,
-      (elim c.if-looped-x-eq1.branch [ then-looped-x-eq1+then-k-place w ↦ omega (arith, w.place-is, loop·.invariant.1, w.if-looped-x-eq1.true, w.if-k-place.true, least_lower the-args.label.now the-args.looped.now the-args.elements loop·.x w.if-looped-x-eq1.true (omega (arith, w.if-k-place.true, loop·.invariant.1))) | then-looped-x-eq1+else-k-place w ↦ omega (arith, w.place-is, loop·.invariant.1, least_kept the-args.label.now the-args.looped.now the-args.elements loop·.x w.if-looped-x-eq1.true (omega (arith, w.if-k-place.false, loop·.invariant.1))) | else-looped-x-eq1 w ↦ omega (arith, w.place-is, loop·.invariant.1, least_off the-args.label.now the-args.looped.now the-args.elements loop·.x w.if-looped-x-eq1.false) ]),
-    )
+    let label = c.args.label.now in
+    let looped = c.args.looped.now in
+    elim c.if-looped-x-eq1.branch [
+      | then-looped-x-eq1 w ↦ omega (arith, w.place-is, w.min-place.ensures, c.loop-x.invariant, least_on label looped c.args.elements c.loop-x.x (omega arith))
+      | else-looped-x-eq1 w ↦ omega (arith, w.place-is, c.loop-x.invariant, least_off label looped c.args.elements c.loop-x.x (omega arith))
+    ]
 
-pub returns : goal.returns
-returns c =
-    let loop· = c.loop-x in
-    let the-args = c.args in
-    let all : loop·.x ≡ the-args.elements = omega arith in loop·.invariant.1 ∙ ap (least_below the-args.label.now the-args.looped.now the-args.elements) all ∙ least_all the-args.label.now the-args.looped.now the-args.elements
+pub returns-then-place-elements : goal.returns-then-place-elements
+returns-then-place-elements c =
+    let all : c.loop-x.x ≡ c.args.elements = omega arith in
+    let least = c.loop-x.invariant ∙ ap (least_below c.args.label.now c.args.looped.now c.args.elements) all
+    ∙ least_all c.args.label.now c.args.looped.now c.args.elements in
+    sym (some_found c.args.elements c.loop-x.place (omega arith)) ∙ ap (some_below c.args.elements) least
+
+pub returns-else-place-elements : goal.returns-else-place-elements
+returns-else-place-elements c =
+    let all : c.loop-x.x ≡ c.args.elements = omega arith in
+    let least = c.loop-x.invariant ∙ ap (least_below c.args.label.now c.args.looped.now c.args.elements) all
+    ∙ least_all c.args.label.now c.args.looped.now c.args.elements in
+    sym (none_found c.args.elements c.loop-x.place (omega arith)) ∙ ap (some_below c.args.elements) least

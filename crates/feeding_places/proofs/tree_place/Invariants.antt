@@ -1,11 +1,7 @@
 -- The least label of a marked element, kept as the least of those before.
 use mathlib.Core.Path.{◌≡◌}
-use Prim.Native.Nat.{◌-◌, ◌≤◌}
 use Rattle.feeding_places.proofs.Tests.{least_below}
 use Rattle.feeding_places.proofs.tree_place.Given as goal
 
 abbrev pub invariant-loop-x : goal.invariant-loop-x
-invariant-loop-x l = (l.x ≤ l.elements) × (l.place ≡ least_below l.label l.looped l.elements l.x)
-
-abbrev pub decreases-loop-x : goal.decreases-loop-x
-decreases-loop-x l = l.elements - l.x
+invariant-loop-x l = l.place ≡ least_below l.label l.looped l.elements l.x

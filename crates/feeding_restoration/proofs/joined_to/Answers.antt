@@ -10,13 +10,11 @@ use Rattle.feeding_restoration.proofs.joined_to.Goals as goal
 pub parts_of-parts-requires : goal.parts_of-parts-requires
 parts_of-parts-requires c =
     let the-args = c.args in
-    let pre· = c.requires in
-    joins_ends _ _ _ the-args.has.now the-args.elements _ pre·
+    joins_ends _ _ _ the-args.has.now the-args.elements _ c.requires
 
 pub spread-requires : goal.spread-requires
 spread-requires c =
-    let pre· = c.requires in
-    parts_reach _ _ _ _ _ c.parts_of-parts.result _ pre·.elements_fit c.parts_of-parts.ensures pre·.has_long
+    parts_reach _ _ _ _ _ c.parts_of-parts.result _ c.requires.elements_fit c.parts_of-parts.ensures c.requires.has_long
 
 pub returns : goal.returns
 unfolding joined_to

@@ -1,12 +1,8 @@
 -- `members_of` meets its contract. The loop's invariant: out marks those below x whose value is one or the other.
 use mathlib.Core.Path.{◌≡◌}
-use Prim.Native.Nat.{◌≤◌, ◌-◌}
 use Rattle.feeding.specs.Below.{bits}
 use Rattle.feeding_sets.specs.Sets.{one_of}
 use Rattle.feeding_sets.proofs.members_of.Given as goal
 
 abbrev pub invariant-loop-x : goal.invariant-loop-x
-invariant-loop-x l = (l.x ≤ l.count) × (l.out ≡ bits 96 l.x (one_of l.values l.one l.other))
-
-abbrev pub decreases-loop-x : goal.decreases-loop-x
-decreases-loop-x l = l.count - l.x
+invariant-loop-x l = l.out ≡ bits 96 l.x (one_of l.values l.one l.other)

@@ -1,7 +1,5 @@
 -- `spread` meets its contract. The loop's invariant: out marks those below x whose part has a member; the highest member of a part tells.
 use mathlib.Core.Path.{◌≡◌, refl, ap, ◌∙◌}
-use mathlib.Core.Logic.{⊎_elim}
-use Prim.Native.Nat.{◌-◌}
 use native.Mathlib.Omega.{arith}
 use Rattle.feeding.specs.Below.{bits}
 use Rattle.feeding.proofs.Bits.{bits_none, bits_on, members_off}
@@ -18,13 +16,7 @@ last_of_part-last-requires c =
 pub loop-x-init : goal.loop-x-init
 loop-x-init c =
     let a = c.args in
-    (omega arith, bits_none 96 (part_has a.label.now a.has.now a.elements))
-
-pub overflow_cast-k : goal.overflow_cast-k
-overflow_cast-k c = omega (arith, c.type_inv.label c.loop-x.x)
-
-pub bounds-last-k : goal.bounds-last-k
-bounds-last-k c = c.requires.label_in c.loop-x.x (omega arith)
+    bits_none 96 (part_has a.label.now a.has.now a.elements)
 
 pub loop-x-preserved : goal.loop-x-preserved
 loop-x-preserved c =
@@ -34,18 +26,16 @@ loop-x-preserved c =
     let n = c.args.elements in
     let f = part_has label has n in
     let x = turn.x in
-    let inside = c.requires.label_in x (omega arith) in (
-      omega arith,
-      (elim c.if-last-k-lt64.branch [
-        | then-last-k-lt64 w ↦ bits_on 96 x f _ _ _ (omega arith) turn.invariant.1
-            (part_has_lem label has n (omega arith) x inside _ c.last_of_part-last.ensures (omega arith)) refl w.out-is
-        | else-last-k-lt64 w ↦ members_off 96 x f _ _ turn.invariant.1
-            (part_lacks label has n (omega arith) x inside _ c.last_of_part-last.ensures (omega arith)) w.out-is
-      ]),
-    )
+    let inside = c.requires.label_in x (omega arith) in
+    elim c.if-last-k-lt64.branch [
+      | then-last-k-lt64 w ↦ bits_on 96 x f _ _ _ (omega arith) turn.invariant
+          (part_has_lem label has n (omega arith) x inside _ c.last_of_part-last.ensures (omega arith)) refl w.out-is
+      | else-last-k-lt64 w ↦ members_off 96 x f _ _ turn.invariant
+          (part_lacks label has n (omega arith) x inside _ c.last_of_part-last.ensures (omega arith)) w.out-is
+    ]
 
 pub returns : goal.returns
 returns c =
     let a = c.args in
     let all : c.loop-x.x ≡ a.elements = omega arith in
-    c.loop-x.invariant.1 ∙ ap (λ n. bits 96 n (part_has a.label.now a.has.now a.elements)) all
+    c.loop-x.invariant ∙ ap (λ n. bits 96 n (part_has a.label.now a.has.now a.elements)) all

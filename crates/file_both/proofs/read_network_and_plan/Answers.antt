@@ -1,20 +1,21 @@
 -- `file_both::read_network_and_plan` reads the network file, then the plan file directly behind it.
-use mathlib.Core.Path.{ap, ◌∙◌}
+use mathlib.Core.Path.{◌≡◌, ap, ◌∙◌}
+use Rattle.std.proofs.Common.{rules}
+use Rattle.std.specs.Prelude.{Err}
 use Rattle.file_network.specs.NetworkFiles.{network_file}
 use Rattle.file_both.specs.Inputs.{both_input_by, both_read, plan_behind}
-use Rattle.file_network.proofs.Outcomes.{network_refused, network_reached}
+use Rattle.file_network.proofs.Outcomes.{part_refused, part_reached}
 use Rattle.file_both.proofs.read_network_and_plan.Goals as goal
 
-pub returns-in-Refused : goal.returns-in-Refused
+pub returns-in_err-part : goal.returns-in_err-part
 unfolding both_input_by
-returns-in-Refused c =
-    let args = c.args in
-    c.refused_both.ensures ∙ ap both_read (network_refused (network_file args.s.now) (λ at stage n. plan_behind args.s.now at n)
-    c.network_file-part.result _ c.network_file-part.ensures c.in-Refused.is).1
+returns-in_err-part c =
+    let s = c.args.s.now in
+    let same : c.from_residual.result ≡ Err (c.in_err-part.field-0.0) = search rules in
+    same ∙ ap both_read (part_refused (network_file s) (λ at stage n. plan_behind s at n) _ c.in_err-part.ensures)
 
-pub returns-in-At : goal.returns-in-At
+pub returns : goal.returns
 unfolding both_input_by
-returns-in-At c =
-    let args = c.args in
-    c.plan_behind.ensures ∙ ap both_read (network_reached (network_file args.s.now) (λ at stage n. plan_behind args.s.now at n)
-    c.network_file-part.result _ _ c.network_file-part.ensures c.in-At.is).1
+returns c =
+    let s = c.args.s.now in
+    c.plan_behind.ensures ∙ ap both_read (part_reached (network_file s) (λ at stage n. plan_behind s at n) _ c.in_ok-part.ensures).1

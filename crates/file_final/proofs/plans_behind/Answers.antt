@@ -1,27 +1,24 @@
 -- `file_final::plans_behind` reads the first plan file, then the second directly behind it.
-use mathlib.Core.Path.{ap, ◌∙◌}
-use native.Mathlib.Omega.{arith}
+use mathlib.Core.Path.{◌≡◌, ap, ◌∙◌}
+use Rattle.std.proofs.Common.{rules}
+use Rattle.std.specs.Prelude.{Err}
+use Rattle.file_network.proofs.Outcomes.{part_refused, part_reached}
 use Rattle.file_plan.specs.PlanFiles.{plan_file}
-use Rattle.file_plan.proofs.Outcomes.{plan_refused, plan_reached}
 use Rattle.file_final.specs.Inputs.{second_behind, plans_behind_by, final_read}
-use Rattle.file_final.proofs.Answers.{second_at}
 use Rattle.file_final.proofs.plans_behind.Goals as goal
 
-pub returns-in-Refused : goal.returns-in-Refused
+pub returns-in_err-part : goal.returns-in_err-part
 unfolding plans_behind_by
-returns-in-Refused c =
-    let args = c.args in
-    c.refused_final.ensures
-    ∙ ap final_read
-    (plan_refused (plan_file args.s.now args.net.links args.start) (λ middle stage p. second_behind args.s.now args.net args.start middle p)
-    c.plan_file-part.result _ c.plan_file-part.ensures c.in-Refused.is).1
+returns-in_err-part c =
+    let a = c.args in
+    let same : c.from_residual.result ≡ Err (c.in_err-part.field-0.0) = search rules in
+    same ∙ ap final_read
+    (part_refused (plan_file a.s.now a.net.links a.start) (λ middle stage p. second_behind a.s.now a.net a.start middle p) _ c.in_err-part.ensures)
 
-pub returns-in-At : goal.returns-in-At
+pub returns : goal.returns
 unfolding plans_behind_by
-returns-in-At c =
-    let args = c.args in
+returns c =
+    let a = c.args in
     c.second_behind.ensures
     ∙ ap final_read
-    (second_at args.s.now args.net args.start c.in-At.middle _ c.plan_file-part.result.plan (omega arith)
-    ∙ (plan_reached (plan_file args.s.now args.net.links args.start) (λ middle stage p. second_behind args.s.now args.net args.start middle p)
-    c.plan_file-part.result _ _ c.plan_file-part.ensures c.in-At.is).1)
+    (part_reached (plan_file a.s.now a.net.links a.start) (λ middle stage p. second_behind a.s.now a.net a.start middle p) _ c.in_ok-part.ensures).1

@@ -1,24 +1,21 @@
 -- `file_final::read_final` reads the network file, then the plan files directly behind it.
-use mathlib.Core.Path.{ap, ◌∙◌}
+use mathlib.Core.Path.{◌≡◌, ap, ◌∙◌}
+use Rattle.std.proofs.Common.{rules}
+use Rattle.std.specs.Prelude.{Err}
 use Rattle.file_network.specs.NetworkFiles.{network_file}
-use Rattle.file_network.proofs.Outcomes.{network_refused, network_reached}
+use Rattle.file_network.proofs.Outcomes.{part_refused, part_reached}
 use Rattle.file_final.specs.Inputs.{plans_behind, final_input_by, final_read}
 use Rattle.file_final.proofs.read_final.Goals as goal
 
-pub returns-in-Refused : goal.returns-in-Refused
+pub returns-in_err-part : goal.returns-in_err-part
 unfolding final_input_by
-returns-in-Refused c =
-    let args = c.args in
-    c.refused_final.ensures
-    ∙ ap final_read
-    (network_refused (network_file args.s.now) (λ start stage n. plans_behind args.s.now start n)
-    c.network_file-part.result _ c.network_file-part.ensures c.in-Refused.is).1
+returns-in_err-part c =
+    let s = c.args.s.now in
+    let same : c.from_residual.result ≡ Err (c.in_err-part.field-0.0) = search rules in
+    same ∙ ap final_read (part_refused (network_file s) (λ start stage n. plans_behind s start n) _ c.in_err-part.ensures)
 
-pub returns-in-At : goal.returns-in-At
+pub returns : goal.returns
 unfolding final_input_by
-returns-in-At c =
-    let args = c.args in
-    c.plans_behind.ensures
-    ∙ ap final_read
-    (network_reached (network_file args.s.now) (λ start stage n. plans_behind args.s.now start n)
-    c.network_file-part.result _ _ c.network_file-part.ensures c.in-At.is).1
+returns c =
+    let s = c.args.s.now in
+    c.plans_behind.ensures ∙ ap final_read (part_reached (network_file s) (λ start stage n. plans_behind s start n) _ c.in_ok-part.ensures).1

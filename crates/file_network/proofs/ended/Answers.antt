@@ -4,19 +4,8 @@ use lib.ListN.{length}
 use borrow.Author.Tests.{lt-ltb, le-ltb}
 use Rattle.file_network.proofs.ended.Goals as goal
 
-pub returns-in-Refused : goal.returns-in-Refused
-returns-in-Refused c = rw c.in-Refused.is
-
 pub returns-then-at-s : goal.returns-then-at-s
-returns-then-at-s c = rw (
-  c.in-At.is,
-  lt-ltb c.in-At.at
-      (length c.args.s.now) (omega arith),
-)
+returns-then-at-s c = rw (lt-ltb c.args.at (length c.args.s.now) (omega arith))
 
-pub returns-in-At : goal.returns-in-At
-returns-in-At c = rw (
-  c.in-At.is,
-  le-ltb c.in-At.at
-      (length c.args.s.now) (omega arith),
-)
+pub returns : goal.returns
+returns c = rw (le-ltb c.args.at (length c.args.s.now) (omega arith))

@@ -1,5 +1,4 @@
 -- `file_stages::next_stage` gives what the definition says of every stage and kind: the table's rule, and refusal past it.
-use mathlib.Core.Path.{◌∙◌}
 use native.Mathlib.Omega.{arith}
 use Rattle.file_stages.proofs.Table.{row_small, entry, past, table}
 use Rattle.file_stages.proofs.next_stage.Goals as goal
@@ -10,15 +9,13 @@ returns-then-column-ge-KINDS c =
     past the-args.stage the-args.kind (omega (arith, c.if-column-ge-KINDS))
 
 pub offset_bounds-row : goal.offset_bounds-row
-offset_bounds-row c =
-    omega (arith, row_small c.args.stage)
+offset_bounds-row c = omega (arith, row_small c.args.stage)
 
 pub bounds-row : goal.bounds-row
-bounds-row c =
-    omega (arith, row_small c.args.stage)
+bounds-row c = omega (arith, row_small c.args.stage)
 
 pub returns : goal.returns
 unfolding table
 returns c =
     let the-args = c.args in
-    c.named.ensures ∙ entry _ the-args.stage _ the-args.kind c.row_of-row.ensures (omega (arith, c.if-column-ge-KINDS))
+    entry _ the-args.stage _ the-args.kind c.row_of-row.ensures (omega (arith, c.if-column-ge-KINDS))

@@ -1,6 +1,5 @@
 -- `file_writer::put_steps` meets its contract: at each turn the steps so far are stored behind the plan head, and a turn stores one more behind them.
 use mathlib.Core.Path.{◌≡◌}
-use Prim.Native.Nat.{◌-◌, ◌≤◌}
 use lib.ListN.{length}
 use lib.Seq.{sets}
 use Rattle.file_writer.specs.Writing.{steps_bytes}
@@ -8,7 +7,4 @@ use Rattle.file_writer.proofs.put_steps.Given as goal
 
 abbrev pub invariant-loop-i : goal.invariant-loop-i
 invariant-loop-i l =
-    (l.i ≤ l.count) × (length l.buffer ≡ length l.initial.buffer) × (l.buffer ≡ sets l.initial.buffer 6 (steps_bytes l.plan l.i))
-
-abbrev pub decreases-loop-i : goal.decreases-loop-i
-decreases-loop-i l = l.count - l.i
+    (length l.buffer ≡ length l.initial.buffer) × (l.buffer ≡ sets l.initial.buffer 6 (steps_bytes l.plan l.i))

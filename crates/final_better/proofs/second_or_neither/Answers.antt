@@ -1,6 +1,7 @@
 -- `final_better::second_or_neither` meets its contract: arm by arm.
 use borrow.Author.Rules.{rules}
 use Rattle.final_better.specs.Better.{second_or_neither}
+use Rattle.final_better.proofs.Marks.{both_out}
 use Rattle.final_better.proofs.second_or_neither.Goals as goal
 
 pub returns-in-Valid : goal.returns-in-Valid
@@ -8,17 +9,6 @@ unfolding second_or_neither
 returns-in-Valid c =
     search rules
 
-pub returns-in-Broken : goal.returns-in-Broken
-unfolding second_or_neither
-returns-in-Broken c =
-    search rules
-
-pub returns-in-Short : goal.returns-in-Short
-unfolding second_or_neither
-returns-in-Short c =
-    search rules
-
-pub returns-in-Refused : goal.returns-in-Refused
-unfolding second_or_neither
-returns-in-Refused c =
-    search rules
+pub returns-in_default : goal.returns-in_default
+returns-in_default c =
+    both_out c.args.second c.in_default.not-Valid

@@ -5,7 +5,6 @@ use Prim.Native.Nat.{◌-◌}
 use Rattle.final_better.specs.declared.Better.{Better}
 use Rattle.final_better.specs.declared.Part.{Part}
 use Rattle.final_better.specs.Better.{part_of}
-use Rattle.network.specs.declared.refusal.Answer.TheVariants.{Accepted}
 use Rattle.final_judge.specs.Finals.{marked_final}
 use Rattle.final_judge.proofs.marked_final.Goals as goal
 
@@ -21,4 +20,4 @@ pub returns : goal.returns
 unfolding marked_final
 returns c =
     let the-args = c.args in
-    ap (λ (x : Part). record { answer = Accepted; marks = the-args.marks; part = x }) (c.part_of-part.ensures ∙ ap (λ (b : Better). part_of (the-args.read.middle - the-args.read.start) (the-args.read.end - the-args.read.middle) b) c.better_of-better.ensures)
+    ap (λ (x : Part). record { marks = the-args.marks; part = x }) (c.part_of-part.ensures ∙ ap (λ (b : Better). part_of (the-args.read.middle - the-args.read.start) (the-args.read.end - the-args.read.middle) b) c.better_of-better.ensures)

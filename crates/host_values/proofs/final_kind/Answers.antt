@@ -3,12 +3,12 @@ use mathlib.Core.Path.{sym, ap}
 use Rattle.host_values.specs.Values.{final_kind}
 use Rattle.host_values.proofs.final_kind.Goals as goal
 
-pub returns-in-Refused : goal.returns-in-Refused
+pub returns-in-Err : goal.returns-in-Err
 unfolding final_kind
-returns-in-Refused c =
-    ap final_kind (sym c.in-Refused.is)
+returns-in-Err c =
+    ap final_kind (sym c.in-Err.is)
 
-pub returns-in-Accepted : goal.returns-in-Accepted
+pub returns-in-Ok : goal.returns-in-Ok
 unfolding final_kind
-returns-in-Accepted c =
-    ap final_kind (sym c.in-Accepted.is)
+returns-in-Ok c =
+    ap final_kind (sym c.in-Ok.is)

@@ -6,4 +6,4 @@ use Rattle.host_values.proofs.marked_values.Goals as goal
 pub returns : goal.returns
 returns c =
     let the-args = c.args in
-    marked_nine the-args.marks the-args.part c.mark_values-one.result c.mark_values-other.result _ _ _ _ _ c.mark_kind.ensures c.mark_values-one.ensures c.mark_kind-2.ensures c.mark_values-other.ensures c.better_number.ensures (omega arith) (omega arith)
+    marked_nine the-args.marks the-args.part c.mark_values-one.result c.mark_values-other.result _ _ _ _ _ c.mark_kind.ensures c.mark_values-one.ensures c.mark_kind-2.ensures c.mark_values-other.ensures c.from.ensures (omega arith) (omega arith)

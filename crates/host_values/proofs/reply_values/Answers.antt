@@ -8,7 +8,7 @@ use Rattle.host_values.proofs.reply_values.Goals as goal
 pub returns-in-Refused : goal.returns-in-Refused
 unfolding reply_values
 returns-in-Refused c =
-    ap {B = List ℕ} (λ (n : ℕ). n ∷ c.in-Refused.refusal.place ∷ 0 ∷ 0 ∷ 0 ∷ []) c.number.ensures ∙ ap reply_values (sym c.in-Refused.is)
+    ap {B = List ℕ} (λ (n : ℕ). n ∷ c.in-Refused.refusal.place ∷ 0 ∷ 0 ∷ 0 ∷ []) c.from.ensures ∙ ap reply_values (sym c.in-Refused.is)
 
 pub returns-in-Plan : goal.returns-in-Plan
 unfolding reply_values

@@ -3,30 +3,37 @@ use native.Mathlib.Omega.{arith}
 use Rattle.judge.proofs.Ways.{returned, unread_mark, unaccepted_mark, plan_mark, read_begun, read_plan, read_network}
 use Rattle.judge.proofs.mark_of.Goals as goal
 
-pub accept-admitted-requires : goal.accept-admitted-requires
-accept-admitted-requires c =
-    let the-args = c.args in
-    read_network the-args.s.now (λ i. omega (arith, c.type_inv.s i)) c.read_network_and_plan-read.result c.read_network_and_plan-read.ensures c.in-Accepted.is
+pub accept-requires : goal.accept-requires
+accept-requires c =
+    let read = c.read_network_and_plan in
+    read_network c.args.s.now (λ i. omega (arith, c.type_inv.s i)) read.result read.ensures _ c.in-Ok.is
 
 pub marked-requires : goal.marked-requires
 marked-requires c =
-    let the-args = c.args in
-    record { begun = read_begun the-args.s.now (λ i. omega (arith, c.type_inv.s i)) c.read_network_and_plan-read.result c.read_network_and_plan-read.ensures c.in-Accepted.is c.accept-admitted.result c.accept-admitted.ensures c.in-Accepted-verdict.is; well_formed_plan = read_plan the-args.s.now (λ i. omega (arith, c.type_inv.s i)) c.read_network_and_plan-read.result c.read_network_and_plan-read.ensures c.in-Accepted.is c.accept-admitted.result c.accept-admitted.ensures c.in-Accepted-verdict.is }
+    let read = c.read_network_and_plan in
+    let s = c.args.s.now in
+    record {
+      begun = read_begun s (λ i. omega (arith, c.type_inv.s i)) read.result read.ensures _ c.in-Ok.is c.accept.result c.accept.ensures _ c.in-Ok-accept.is;
+      well_formed_plan = read_plan s (λ i. omega (arith, c.type_inv.s i)) read.result read.ensures _ c.in-Ok.is c.accept.result c.accept.ensures _ c.in-Ok-accept.is;
+    }
 
-pub returns-in-Refused : goal.returns-in-Refused
-returns-in-Refused c =
-    let the-args = c.args in
-    let whole = returned the-args.s.now (λ i. omega (arith, c.type_inv.s i)) c.read_network_and_plan-read.result c.read_network_and_plan-read.ensures _ (unread_mark the-args.s.now (λ i. omega (arith, c.type_inv.s i)) c.read_network_and_plan-read.result c.read_network_and_plan-read.ensures _ c.in-Refused.is) in
+pub returns-in-Err : goal.returns-in-Err
+returns-in-Err c =
+    let read = c.read_network_and_plan in
+    let s = c.args.s.now in
+    let whole = returned s (λ i. omega (arith, c.type_inv.s i)) read.result read.ensures _ (unread_mark s (λ i. omega (arith, c.type_inv.s i)) read.result read.ensures _ c.in-Err.is) in
     record { value = whole.0; judge_reply = whole.1 }
 
-pub returns-in-Refused-verdict : goal.returns-in-Refused-verdict
-returns-in-Refused-verdict c =
-    let the-args = c.args in
-    let whole = returned the-args.s.now (λ i. omega (arith, c.type_inv.s i)) c.read_network_and_plan-read.result c.read_network_and_plan-read.ensures _ (unaccepted_mark the-args.s.now (λ i. omega (arith, c.type_inv.s i)) c.read_network_and_plan-read.result c.read_network_and_plan-read.ensures c.in-Accepted.is c.accept-admitted.result c.accept-admitted.ensures _ c.in-Refused-verdict.is) in
+pub returns-in-Err-accept : goal.returns-in-Err-accept
+returns-in-Err-accept c =
+    let read = c.read_network_and_plan in
+    let s = c.args.s.now in
+    let whole = returned s (λ i. omega (arith, c.type_inv.s i)) read.result read.ensures _ (unaccepted_mark s (λ i. omega (arith, c.type_inv.s i)) read.result read.ensures _ c.in-Ok.is c.accept.result c.accept.ensures _ c.in-Err-accept.is) in
     record { value = whole.0; judge_reply = whole.1 }
 
-pub returns-in-Accepted-verdict : goal.returns-in-Accepted-verdict
-returns-in-Accepted-verdict c =
-    let the-args = c.args in
-    let whole = returned the-args.s.now (λ i. omega (arith, c.type_inv.s i)) c.read_network_and_plan-read.result c.read_network_and_plan-read.ensures _ (plan_mark the-args.s.now (λ i. omega (arith, c.type_inv.s i)) c.read_network_and_plan-read.result c.read_network_and_plan-read.ensures c.in-Accepted.is c.accept-admitted.result c.accept-admitted.ensures c.in-Accepted-verdict.is _ c.marked.ensures) in
+pub returns-in-Ok-accept : goal.returns-in-Ok-accept
+returns-in-Ok-accept c =
+    let read = c.read_network_and_plan in
+    let s = c.args.s.now in
+    let whole = returned s (λ i. omega (arith, c.type_inv.s i)) read.result read.ensures _ (plan_mark s (λ i. omega (arith, c.type_inv.s i)) read.result read.ensures _ c.in-Ok.is c.accept.result c.accept.ensures _ c.in-Ok-accept.is _ c.marked.ensures) in
     record { value = whole.0; judge_reply = whole.1 }

@@ -6,8 +6,8 @@ use Rattle.judge_score.proofs.either_complete.Goals as goal
 
 pub returns-then-complete : goal.returns-then-complete
 returns-then-complete c =
-    ap (λ (x : Bool). x || complete? c.args.other) (sym c.if-complete.true ∙ c.complete.ensures)
+    c.if-complete.true ∙ ap (λ (x : Bool). x || complete? c.args.other) (sym c.if-complete.true ∙ c.complete.ensures)
 
-pub returns : goal.returns
-returns c =
-    c.complete-2.ensures ∙ ap (λ (x : Bool). x || complete? c.args.other) (sym c.if-complete.false ∙ c.complete.ensures)
+pub returns-else-complete : goal.returns-else-complete
+returns-else-complete c =
+    c.complete-else-complete.ensures ∙ ap (λ (x : Bool). x || complete? c.args.other) (sym c.if-complete.false ∙ c.complete.ensures)

@@ -1,12 +1,11 @@
 -- `plan_cost` meets its contract: the sum is the cost of the steps passed, and the guards marked are those that they pay for.
-use mathlib.Core.Logic.{⊎_elim}
-use Prim.Native.Nat.{◌-◌, ◌+◌}
+use Prim.Native.Nat.{◌+◌}
 use native.Mathlib.Omega.{arith}
 use Rattle.feeding.specs.Networks.{at}
 use Rattle.judge_steps.proofs.Paying.{paid_small, paid_first, paid_free, paid_again, paid_new, paid_last}
 use Rattle.network.proofs.Pairs.{both}
 use Rattle.judge_steps.proofs.plan_cost.Goals as goal
-use Rattle.judge_steps.proofs.plan_cost.Goals.{else-g-net, then-g-net+else-paid-g-eq0, then-g-net+then-paid-g-eq0}
+use Rattle.judge_steps.proofs.plan_cost.Goals.{else-g-net, else-g-net-via-then-g-net+else-paid-g-eq0, else-g-net-via-else-g-net, then-g-net+then-paid-g-eq0}
 
 pub loop-i-init : goal.loop-i-init
 loop-i-init c =
@@ -108,7 +107,7 @@ loop-i-preserved c =
     let the-args = c.args in
     let pre· = (both c.requires.well_formed c.requires.well_formed_plan) in
     let loop· = c.loop-i in
-    (elim c.if-g-net.branch [ then-g-net+then-paid-g-eq0 w ↦ paid_new the-args.net pre·.0 the-args.plan pre·.1 loop·.paid loop·.sum loop·.i loop·.invariant (omega arith) (loop·.i + 1) (omega arith) (omega arith) (omega arith) _ _ w.paid-is w.sum-is | then-g-net+else-paid-g-eq0 w ↦ paid_again the-args.net pre·.0 the-args.plan pre·.1 loop·.paid loop·.sum loop·.i loop·.invariant (omega arith) (loop·.i + 1) (omega arith) (omega arith) (omega arith) _ _ w.paid-is w.sum-is | else-g-net w ↦ paid_free the-args.net pre·.0 the-args.plan pre·.1 loop·.paid loop·.sum loop·.i loop·.invariant (omega arith) (loop·.i + 1) (omega arith) (omega arith) _ _ w.paid-is w.sum-is ])
+    (elim c.if-g-net.branch [ then-g-net+then-paid-g-eq0 w ↦ paid_new the-args.net pre·.0 the-args.plan pre·.1 loop·.paid loop·.sum loop·.i loop·.invariant (omega arith) (loop·.i + 1) (omega arith) (omega arith) (omega arith) _ _ w.paid-is w.sum-is | else-g-net w ↦ elim w.else-g-net.branch [ else-g-net-via-then-g-net+else-paid-g-eq0 v ↦ paid_again the-args.net pre·.0 the-args.plan pre·.1 loop·.paid loop·.sum loop·.i loop·.invariant (omega arith) (loop·.i + 1) (omega arith) (omega arith) (omega arith) _ _ w.paid-is w.sum-is | else-g-net-via-else-g-net v ↦ paid_free the-args.net pre·.0 the-args.plan pre·.1 loop·.paid loop·.sum loop·.i loop·.invariant (omega arith) (loop·.i + 1) (omega arith) (omega arith) _ _ w.paid-is w.sum-is ] ])
 
 pub returns : goal.returns
 returns c =

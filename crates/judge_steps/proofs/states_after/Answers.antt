@@ -1,9 +1,8 @@
 -- The states after the steps: what the steps left make of the states so far is what all make of those at the start.
-use mathlib.Core.Path.{refl}
+use mathlib.Core.Path.{refl, ◌∙◌}
 use borrow.Author.Rules.{rules}
-use Prim.Native.Nat.{◌-◌}
 use native.Mathlib.Omega.{arith}
-use Rattle.judge_steps.proofs.Following.{run_first, run_turn, run_last}
+use Rattle.judge_steps.proofs.Following.{state_byte, run_first, run_turn, run_last}
 use Rattle.judge_steps.proofs.states_after.Goals as goal
 
 pub loop-i-init : goal.loop-i-init
@@ -25,7 +24,7 @@ loop-i-preserved c =
     let the-args = c.args in
     let loop· = c.loop-i in
     run_turn the-args.plan the-args.start loop·.closed loop·.i loop·.invariant (omega arith)
-    _ (omega (arith, c.state_of.ensures)) _ refl _ (omega arith)
+    _ (c.from.ensures ∙ state_byte _) _ refl _ (omega arith)
 
 pub returns : goal.returns
 returns c =

@@ -1,10 +1,6 @@
 -- The states after the steps: what the steps left make of the states so far is what all make of those at the start.
-use Prim.Native.Nat.{◌-◌}
 use Rattle.judge_steps.proofs.Following.{Running}
 use Rattle.judge_steps.proofs.states_after.Given as goal
 
 abbrev pub invariant-loop-i : goal.invariant-loop-i
 invariant-loop-i l = Running l.plan l.initial.closed l.closed l.i
-
-abbrev pub decreases-loop-i : goal.decreases-loop-i
-decreases-loop-i l = l.count - l.i

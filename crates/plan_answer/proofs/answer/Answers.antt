@@ -7,15 +7,12 @@ use Rattle.plan_answer.proofs.answer.Goals as goal
 
 pub solve-requires : goal.solve-requires
 solve-requires c =
-    let the-args = c.args in
-    read_begun the-args.s.now (λ i. omega (arith, c.type_inv.s i)) c.read_accepted-read.result c.read_accepted-read.ensures.value c.in-Accepted.is
+    read_begun c.args.s.now (λ i. omega (arith, c.type_inv.s i)) c.read_accepted.result c.read_accepted.ensures.value _ c.in-Ok.is
 
-pub returns-in-Accepted : goal.returns-in-Accepted
-returns-in-Accepted c =
-    let the-args = c.args in
-    c.solve.ensures ∙ accepted_outcome the-args.s.now c.read_accepted-read.result c.read_accepted-read.ensures.value c.in-Accepted.is
+pub returns-in-Ok : goal.returns-in-Ok
+returns-in-Ok c =
+    c.solve.ensures ∙ accepted_outcome c.args.s.now c.read_accepted.result c.read_accepted.ensures.value _ c.in-Ok.is
 
-pub returns-in-Refused : goal.returns-in-Refused
-returns-in-Refused c =
-    let the-args = c.args in
-    refusal_outcome the-args.s.now c.read_accepted-read.result c.read_accepted-read.ensures.value _ c.in-Refused.is c.empty-plan.result c.empty-plan.ensures
+pub returns-in-Err : goal.returns-in-Err
+returns-in-Err c =
+    refusal_outcome c.args.s.now c.read_accepted.result c.read_accepted.ensures.value _ c.in-Err.is c.empty-plan.result c.empty-plan.ensures

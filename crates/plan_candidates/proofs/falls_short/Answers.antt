@@ -1,9 +1,8 @@
 -- `falls_short` meets its contract: what is asked and what is borne are the network's.
 use mathlib.Core.Path.{sym}
-use native.Mathlib.Omega.{arith}
 use Rattle.feeding_restoration.proofs.Reach.{bits_long}
 use Rattle.feeding_start.proofs.Starts.{restorable_of}
-use Rattle.plan_candidates.proofs.Short.{demand_reach, supply_reach, too_little, sufficient}
+use Rattle.plan_candidates.proofs.Short.{demand_reach, supply_reach, short_is}
 use Rattle.plan_candidates.proofs.falls_short.Goals as goal
 
 pub slice_bounds-demand_of-end : goal.slice_bounds-demand_of-end
@@ -24,14 +23,6 @@ demand_of-borne-requires c =
     let pre· = c.requires in
     supply_reach the-args.start pre·
 
-pub returns-then-borne-asked : goal.returns-then-borne-asked
-returns-then-borne-asked c =
-    let the-args = c.args in
-    let pre· = c.requires in
-    too_little the-args.start pre· c.demand_of-asked.ensures c.demand_of-borne.ensures (omega (arith, c.if-borne-asked))
-
 pub returns : goal.returns
 returns c =
-    let the-args = c.args in
-    let pre· = c.requires in
-    sufficient the-args.start pre· c.demand_of-asked.ensures c.demand_of-borne.ensures (omega (arith, c.if-borne-asked))
+    short_is c.args.start c.requires c.demand_of-asked.ensures c.demand_of-borne.ensures

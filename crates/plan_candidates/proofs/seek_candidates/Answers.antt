@@ -1,34 +1,31 @@
 -- `seek_candidates` tries all candidates: its calls make what the search starts from, and the search tries the sets from there.
-use mathlib.Core.Path.{refl, ◌∙◌}
-use Rattle.plan_candidates.proofs.Sought.{columns, setting_settled, start_seeks, start_placed, sought}
-use Rattle.network.proofs.Pairs.{both}
+use mathlib.Core.Path.{refl, ap, ◌∙◌}
+use native.Mathlib.Omega.{arith}
+use Rattle.plan_search.specs.declared.Search.{Search}
+use Rattle.plan_candidates.proofs.Sought.{columns, start_seeks, start_placed, tried}
 use Rattle.plan_candidates.proofs.seek_candidates.Goals as goal
 
-pub origin_of-origin-requires : goal.origin_of-origin-requires
-origin_of-origin-requires c =
-    let pre· = (both c.requires.searchable (both c.requires.switches_value (both c.requires.base_value (both c.requires.walked c.requires.best_len)))) in
-    record { searchable = pre·.0; base_value = pre·.1.1.0 }
-
-pub packed_setting-packed-requires : goal.packed_setting-packed-requires
-packed_setting-packed-requires c =
-    let the-args = c.args in
-    let pre· = (both c.requires.searchable (both c.requires.switches_value (both c.requires.base_value (both c.requires.walked c.requires.best_len)))) in
-    record { columns = columns the-args.start pre·.0 the-args.switches pre·.1.0; want_bound = (c.origin_of-origin.ensures.few, (pre·.0.formed.elements_fit, pre·.0.formed.links_fit)) }
-
-pub charged-fixed-requires : goal.charged-fixed-requires
-charged-fixed-requires c =
-    let the-args = c.args in
-    let pre· = (both c.requires.searchable (both c.requires.switches_value (both c.requires.base_value (both c.requires.walked c.requires.best_len)))) in
-    record { switch_reach = (columns the-args.start pre·.0 the-args.switches pre·.1.0).reach; links_bound = pre·.0.formed.links_fit }
+pub new-setting-requires : goal.new-setting-requires
+new-setting-requires c =
+    let walked = c.requires.walked in
+    let formed = c.requires.searchable.formed in
+    record {
+      columns = columns c.args.start c.requires.searchable c.args.switches c.requires.switches_value;
+      want_bound = (c.origin_of-origin.ensures.few, (omega (arith, formed.elements_fit, walked.elements_are), omega (arith, formed.links_fit, walked.links_are)));
+    }
 
 pub seek-requires : goal.seek-requires
 seek-requires c =
-    let the-args = c.args in
-    let pre· = (both c.requires.searchable (both c.requires.switches_value (both c.requires.base_value (both c.requires.walked c.requires.best_len)))) in
-    record { settled = setting_settled the-args.start pre·.0 the-args.switches pre·.1.0 c.packed_setting-packed.ensures c.charged-fixed.ensures the-args.chain.now the-args.rating.now c.origin_of-origin.ensures.few; seeks = start_seeks the-args.start pre·.0 the-args.switches pre·.1.0 c.packed_setting-packed.ensures c.charged-fixed.ensures the-args.chain.now the-args.rating.now c.origin_of-origin.result c.origin_of-origin.ensures refl; placed = start_placed the-args.start pre·.0 the-args.switches pre·.1.0 c.packed_setting-packed.ensures c.charged-fixed.ensures the-args.chain.now the-args.rating.now c.origin_of-origin.result c.origin_of-origin.ensures refl the-args.left.now pre·.1.1.1.0; light = c.origin_of-origin.ensures.light; best_len = pre·.1.1.1.1 }
+    let p = c.new-setting.ensures in
+    let o = c.origin_of-origin in
+    record {
+      seeks = start_seeks c.args.start c.requires.searchable c.args.switches c.requires.switches_value p c.requires.walked o.result o.ensures refl c.args.best;
+      placed = start_placed c.args.start c.requires.searchable c.args.switches c.requires.switches_value p c.requires.walked o.result o.ensures refl c.args.best;
+      light = o.ensures.light;
+    }
 
 pub returns : goal.returns
 returns c =
-    let the-args = c.args in
-    let pre· = (both c.requires.searchable (both c.requires.switches_value (both c.requires.base_value (both c.requires.walked c.requires.best_len)))) in
-    record { best_after = c.seek.ensures.best_after ∙ sought the-args.start pre·.0 the-args.switches pre·.1.0 c.packed_setting-packed.ensures c.charged-fixed.ensures the-args.chain.now the-args.rating.now c.origin_of-origin.result c.origin_of-origin.ensures refl the-args.left.now _; best_len_2 = c.seek.ensures.best_len_2 }
+    ap (λ (x : Search). x.best) c.seek.ensures
+    ∙ tried c.args.start c.requires.searchable c.args.switches c.requires.switches_value c.new-setting.ensures c.requires.walked
+    c.origin_of-origin.result c.origin_of-origin.ensures refl c.args.best

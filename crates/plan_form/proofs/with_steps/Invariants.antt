@@ -1,12 +1,9 @@
 -- `with_steps` meets its contract. The loop's invariant: the plan has the steps of the sweep over the links below l, so at most l more.
 use mathlib.Core.Path.{◌≡◌}
-use Prim.Native.Nat.{◌+◌, ◌≤◌, ◌-◌}
+use Prim.Native.Nat.{◌+◌, ◌≤◌}
 use Rattle.plan_form.proofs.Sweeping.{swept_to}
 use Rattle.plan_form.proofs.with_steps.Given as goal
 
 abbrev pub invariant-loop-l : goal.invariant-loop-l
 invariant-loop-l l =
-    (l.l ≤ l.links) × (l.longer.steps ≤ l.initial.longer.steps + l.l) × (l.longer ≡ swept_to l.operated l.closed l.state l.initial.longer l.close l.l)
-
-abbrev pub decreases-loop-l : goal.decreases-loop-l
-decreases-loop-l l = l.links - l.l
+    (l.longer.steps ≤ l.initial.longer.steps + l.l) × (l.longer ≡ swept_to l.operated l.closed l.state l.initial.longer l.close l.l)

@@ -1,32 +1,33 @@
--- `clashing` meets its contract: each return is one case of `clash`.
-use mathlib.Core.Path.{sym, ◌∙◌}
-use Rattle.plan_holdings.proofs.Tests.{clash_sources, clash_second, clash_first, clash_none}
+-- `clashing` meets its contract: it asks the tests of `clash` in turn.
+use mathlib.Core.Path.{◌≡◌, ◌∙◌}
+use mathlib.Core.Bool.{◌&&◌, ◌||◌}
+use Rattle.plan_stops.specs.Holding.{has_source, has_fault, clash}
+use Rattle.plan_holdings.proofs.Tests.{or_first, or_second, and_first, and_second}
 use Rattle.plan_holdings.proofs.clashing.Goals as goal
+use Rattle.plan_holdings.proofs.clashing.Goals.{Joined-source_in, then-source_in+then-source_in-2, then-source_in+else-source_in-2, else-source_in}
 
-pub returns-then-source_in-2 : goal.returns-then-source_in-2
-returns-then-source_in-2 c =
-    let the-args = c.args in
-    clash_sources the-args.x the-args.y
-    (sym c.source_in.ensures ∙ c.if-source_in.true)
-    (sym c.source_in-then-source_in.ensures ∙ c.if-source_in-2.true)
+-- the first part has a source, and the second a source or a fault
+first : (c : Joined-source_in) → c.if-source_in.value ≡ (has_source c.args.x && (has_source c.args.y || has_fault c.args.y))
+first c = elim c.if-source_in.branch [
+  | then-source_in+then-source_in-2 w ↦ w.value-is
+      ∙ and_second c.source_in.ensures w.if-source_in.true (or_first _ w.source_in-then-source_in.ensures w.if-source_in-2.true)
+  | then-source_in+else-source_in-2 w ↦ w.value-is
+      ∙ and_second c.source_in.ensures w.if-source_in.true (or_second w.source_in-then-source_in.ensures w.if-source_in-2.false w.fault_in.ensures)
+  | else-source_in w ↦ w.value-is ∙ and_first _ c.source_in.ensures w.if-source_in.false
+]
 
-pub returns-then-source_in : goal.returns-then-source_in
-returns-then-source_in c =
-    let the-args = c.args in
-    clash_second the-args.x the-args.y _
-    (sym c.source_in.ensures ∙ c.if-source_in.true)
-    (sym c.source_in-then-source_in.ensures ∙ c.if-source_in-2.false) c.fault_in.ensures
+pub returns-then-fault_in : goal.returns-then-fault_in
+unfolding clash
+returns-then-fault_in c = or_first _ (first ((goal.at.returns-then-fault_in c).Joined-source_in)) c.if-fault_in.true
 
 pub returns-then-source_in-3 : goal.returns-then-source_in-3
+unfolding clash
 returns-then-source_in-3 c =
-    let the-args = c.args in
-    clash_first the-args.x the-args.y _
-    (sym c.source_in.ensures ∙ c.if-source_in.false)
-    (sym c.source_in-2.ensures ∙ c.if-source_in-3.true) c.fault_in-then-source_in-3.ensures
+    or_second (first ((goal.at.returns-then-source_in-3 c).Joined-source_in)) c.if-fault_in.false
+    (and_second c.source_in-else-fault_in.ensures c.if-source_in-3.true c.fault_in-then-source_in-3.ensures)
 
-pub returns : goal.returns
-returns c =
-    let the-args = c.args in
-    clash_none the-args.x the-args.y
-    (sym c.source_in.ensures ∙ c.if-source_in.false)
-    (sym c.source_in-2.ensures ∙ c.if-source_in-3.false)
+pub returns-else-source_in-3 : goal.returns-else-source_in-3
+unfolding clash
+returns-else-source_in-3 c =
+    or_second (first ((goal.at.returns-else-source_in-3 c).Joined-source_in)) c.if-fault_in.false
+    (and_first _ c.source_in-else-fault_in.ensures c.if-source_in-3.false)

@@ -1,6 +1,6 @@
 -- `plan_lines::put_steps` meets its contract: at each turn the lines of the steps so far are stored, and a turn stores one more behind them.
 use mathlib.Core.Path.{◌≡◌}
-use Prim.Native.Nat.{◌+◌, ◌-◌, ◌*◌, ◌≤◌}
+use Prim.Native.Nat.{◌+◌, ◌*◌, ◌≤◌}
 use lib.ListN.{length}
 use Rattle.texts.proofs.Pieces.{Put}
 use Rattle.plan_lines.specs.Lines.{step_lines}
@@ -8,7 +8,4 @@ use Rattle.plan_lines.proofs.put_steps.Given as goal
 
 abbrev pub invariant-loop-i : goal.invariant-loop-i
 invariant-loop-i l =
-    (l.i ≤ l.count) × (length l.out ≡ length l.initial.out) × (l.next ≤ l.at + 12 * l.i) × Put l.initial.out l.at l.out l.next (step_lines l.plan l.i)
-
-abbrev pub decreases-loop-i : goal.decreases-loop-i
-decreases-loop-i l = l.count - l.i
+    (length l.out ≡ length l.initial.out) × (l.next ≤ l.at + 12 * l.i) × Put l.initial.out l.at l.out l.next (step_lines l.plan l.i)

@@ -1,5 +1,4 @@
 -- `lump_layers` lumps layer after layer: after i turns it has what the definition has after i layers.
-use Prim.Native.Nat.{◌-◌}
 use mathlib.Core.Path.{◌≡◌, ap, ◌∙◌}
 use native.Mathlib.Omega.{arith}
 use lib.ListN.{length}
@@ -15,13 +14,13 @@ use Rattle.plan_lumping.proofs.lump_layers.Goals as goal
 pub loop-i-init : goal.loop-i-init
 loop-i-init c =
     let the-args = c.args in
-    (omega arith, no_layer the-args.net the-args.link.now the-args.count the-args.sound.now _)
+    no_layer the-args.net the-args.link.now the-args.count the-args.sound.now _
 
 pub closable_ends-own-requires : goal.closable_ends-own-requires
 closable_ends-own-requires c = let loop· = c.loop-i in
     let the-args = c.args in
     let pre· = (both c.requires.well_formed c.requires.switch_reach) in
-    let long = ap (λ (t : Lumped). length t.base) loop·.invariant.1 ∙ (layers_long the-args.net the-args.link.now the-args.count the-args.sound.now _ loop·.i).0 ∙ pre·.1.1 in
+    let long = ap (λ (t : Lumped). length t.base) loop·.invariant ∙ (layers_long the-args.net the-args.link.now the-args.count the-args.sound.now _ loop·._i).0 ∙ pre·.1.1 in
     record { two_ends = two_ends the-args.net pre·.0 _ long; switch_reach = (pre·.1.0, long) }
 
 pub lump_spurs-lumped-requires : goal.lump_spurs-lumped-requires
@@ -35,10 +34,10 @@ pub loop-i-preserved : goal.loop-i-preserved
 loop-i-preserved c =
     let the-args = c.args in
     let loop· = c.loop-i in
-    (omega arith, c.lump_spurs-lumped.ensures ∙ ap (λ (own : OwnEnds). lumped_to own the-args.sound.now the-args.net.capacity loop·.lumped the-args.net.elements) c.closable_ends-own.ensures ∙ one_layer the-args.net the-args.link.now the-args.count the-args.sound.now _ loop·.i loop·.lumped loop·.invariant.1)
+    c.lump_spurs-lumped.ensures ∙ ap (λ (own : OwnEnds). lumped_to own the-args.sound.now the-args.net.capacity loop·.lumped the-args.net.elements) c.closable_ends-own.ensures ∙ one_layer the-args.net the-args.link.now the-args.count the-args.sound.now _ loop·._i loop·.lumped loop·.invariant
 
 pub returns : goal.returns
 returns c =
     let loop· = c.loop-i in
     let the-args = c.args in
-    loop·.invariant.1 ∙ (let all : loop·.i ≡ the-args.layers = omega arith in ap (lumped_layers the-args.net the-args.link.now the-args.count the-args.sound.now _) all)
+    loop·.invariant ∙ (let all : loop·._i ≡ the-args.layers = omega arith in ap (lumped_layers the-args.net the-args.link.now the-args.count the-args.sound.now _) all)

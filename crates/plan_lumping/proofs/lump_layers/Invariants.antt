@@ -1,13 +1,8 @@
 -- `lump_layers` lumps layer after layer: after i turns it has what the definition has after i layers.
-use Prim.Native.Nat.{◌-◌, ◌≤◌}
 use mathlib.Core.Path.{◌≡◌}
 use Rattle.plan_lumping.specs.Layers.{lumped_layers}
 use Rattle.plan_lumping.proofs.lump_layers.Given as goal
 
 abbrev pub invariant-loop-i : goal.invariant-loop-i
 invariant-loop-i l =
-    (l.i ≤ l.layers) × (l.lumped ≡ lumped_layers l.net l.link l.count l.sound l.initial.lumped l.i)
-
-abbrev pub decreases-loop-i : goal.decreases-loop-i
-decreases-loop-i l =
-    l.layers - l.i
+    l.lumped ≡ lumped_layers l.net l.link l.count l.sound l.initial.lumped l._i

@@ -1,7 +1,5 @@
 -- `fellows_of` meets its contract. The loop's invariant: the mask is that of the switches passed.
 use mathlib.Core.Path.{◌≡◌}
-use mathlib.Core.Logic.{⊎_elim}
-use Prim.Native.Nat.{◌-◌}
 use lib.Dec.{eqb}
 use borrow.Author.Tests.{eq-eqb, ne_eqb}
 use native.Mathlib.Omega.{arith}
@@ -13,7 +11,7 @@ use Rattle.plan_setting.proofs.fellows_of.Goals.{else-own-g, then-own-g}
 pub loop-j-init : goal.loop-j-init
 loop-j-init c =
     let the-args = c.args in
-    (omega arith, omega (arith, mask_none (λ x. eqb (at the-args.guard.now (at the-args.link.now x)) the-args.g)))
+    omega (arith, mask_none (λ x. eqb (at the-args.guard.now (at the-args.link.now x)) the-args.g))
 
 pub bounds-link-j : goal.bounds-link-j
 bounds-link-j c =
@@ -38,24 +36,22 @@ overflow_mul-mask c =
     let the-args = c.args in
     let loop· = c.loop-j in
     let pre· = c.requires in
-    omega (arith, mask_fits (λ x. eqb (at the-args.guard.now (at the-args.link.now x)) the-args.g) loop·.j (omega (arith, pre·.fit)), loop·.invariant.1)
+    omega (arith, mask_fits (λ x. eqb (at the-args.guard.now (at the-args.link.now x)) the-args.g) loop·.j (omega (arith, pre·.fit)), loop·.invariant)
 
 pub overflow_add-mask : goal.overflow_add-mask
 overflow_add-mask c =
     let the-args = c.args in
     let loop· = c.loop-j in
     let pre· = c.requires in
-    omega (arith, mask_fits (λ x. eqb (at the-args.guard.now (at the-args.link.now x)) the-args.g) loop·.j (omega (arith, pre·.fit)), loop·.invariant.1)
+    omega (arith, mask_fits (λ x. eqb (at the-args.guard.now (at the-args.link.now x)) the-args.g) loop·.j (omega (arith, pre·.fit)), loop·.invariant)
 
 pub loop-j-preserved : goal.loop-j-preserved
 loop-j-preserved c =
     let the-args = c.args in
-    let loop· = c.loop-j in (
-      omega arith,
-      (elim c.if-own-g.branch [ then-own-g w ↦ mask_on (λ x. eqb (at the-args.guard.now (at the-args.link.now x)) the-args.g) loop·.j loop·.mask _ loop·.invariant.1 (eq-eqb _ _ w.if-own-g.true) w.mask-is | else-own-g w ↦ mask_off (λ x. eqb (at the-args.guard.now (at the-args.link.now x)) the-args.g) loop·.j loop·.mask _ loop·.invariant.1 (ne_eqb _ _ w.if-own-g.false) w.mask-is ]),
-    )
+    let loop· = c.loop-j in
+    (elim c.if-own-g.branch [ then-own-g w ↦ mask_on (λ x. eqb (at the-args.guard.now (at the-args.link.now x)) the-args.g) loop·.j loop·.mask _ loop·.invariant (eq-eqb _ _ w.if-own-g.true) w.mask-is | else-own-g w ↦ mask_off (λ x. eqb (at the-args.guard.now (at the-args.link.now x)) the-args.g) loop·.j loop·.mask _ loop·.invariant (ne_eqb _ _ w.if-own-g.false) w.mask-is ])
 
 pub returns : goal.returns
 returns c =
     let loop· = c.loop-j in
-    let all : loop·.j ≡ c.args.n = omega arith in rw (← all) loop·.invariant.1
+    let all : loop·.j ≡ c.args.n = omega arith in rw (← all) loop·.invariant

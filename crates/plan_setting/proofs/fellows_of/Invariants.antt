@@ -1,6 +1,5 @@
 -- `fellows_of` meets its contract. The loop's invariant: the mask is that of the switches passed.
 use mathlib.Core.Path.{◌≡◌}
-use Prim.Native.Nat.{◌≤◌, ◌-◌}
 use lib.Dec.{eqb}
 use Rattle.feeding.specs.Networks.{at}
 use Rattle.plan_problem.specs.Sets.{mask_of}
@@ -8,8 +7,4 @@ use Rattle.plan_setting.proofs.fellows_of.Given as goal
 
 abbrev pub invariant-loop-j : goal.invariant-loop-j
 invariant-loop-j l =
-    (l.j ≤ l.n) × (l.mask ≡ mask_of (λ x. eqb (at l.guard (at l.link x)) l.g) l.j)
-
-abbrev pub decreases-loop-j : goal.decreases-loop-j
-decreases-loop-j l =
-    l.n - l.j
+    l.mask ≡ mask_of (λ x. eqb (at l.guard (at l.link x)) l.g) l.j

@@ -2,31 +2,28 @@
 use native.Mathlib.Omega.{arith}
 use Rattle.plan_spurs.proofs.OneMore.{no_end, more_ends, at_source, by_switch, is_spur}
 use Rattle.plan_spurs.proofs.hangs_by.Goals as goal
-
-pub overflow_cast-j : goal.overflow_cast-j
-overflow_cast-j c = omega (arith, c.shared_slice_known-1.given c.args.e)
+use Rattle.plan_spurs.proofs.hangs_by.Goals.{
+  then-j-ge-NO_END-via-then-j-ge-NO_END,
+  then-j-ge-NO_END-via-else-j-ge-NO_END+then-next-j-lt192,
+  then-j-ge-NO_END-via-else-j-ge-NO_END+else-next-j-lt192+then-sound-e-eq1,
+  then-j-ge-NO_END-via-else-j-ge-NO_END+else-next-j-lt192+else-sound-e-eq1+then-base-j-ne1,
+}
 
 pub returns-then-j-ge-NO_END : goal.returns-then-j-ge-NO_END
 returns-then-j-ge-NO_END c =
     let the-args = c.args in
-    no_end the-args.head.now the-args.next.now the-args.sound.now the-args.base.now the-args.e (omega arith)
-
-pub returns-then-next-j-lt192 : goal.returns-then-next-j-lt192
-returns-then-next-j-lt192 c =
-    let the-args = c.args in
-    more_ends the-args.head.now the-args.next.now the-args.sound.now the-args.base.now the-args.e (omega arith)
-
-pub returns-then-sound-e-eq1 : goal.returns-then-sound-e-eq1
-returns-then-sound-e-eq1 c =
-    let the-args = c.args in
-    at_source the-args.head.now the-args.next.now the-args.sound.now the-args.base.now the-args.e (omega arith)
-
-pub returns-then-base-j-eq1 : goal.returns-then-base-j-eq1
-returns-then-base-j-eq1 c =
-    let the-args = c.args in
-    is_spur the-args.head.now the-args.next.now the-args.sound.now the-args.base.now the-args.e (omega arith) (omega arith) (λ h. omega arith) (omega arith)
+    elim c.then-j-ge-NO_END.branch [
+      | then-j-ge-NO_END-via-then-j-ge-NO_END w ↦
+          no_end the-args.head.now the-args.next.now the-args.sound.now the-args.base.now the-args.e (omega arith)
+      | then-j-ge-NO_END-via-else-j-ge-NO_END+then-next-j-lt192 w ↦
+          more_ends the-args.head.now the-args.next.now the-args.sound.now the-args.base.now the-args.e (omega arith)
+      | then-j-ge-NO_END-via-else-j-ge-NO_END+else-next-j-lt192+then-sound-e-eq1 w ↦
+          at_source the-args.head.now the-args.next.now the-args.sound.now the-args.base.now the-args.e (omega arith)
+      | then-j-ge-NO_END-via-else-j-ge-NO_END+else-next-j-lt192+else-sound-e-eq1+then-base-j-ne1 w ↦
+          by_switch the-args.head.now the-args.next.now the-args.sound.now the-args.base.now the-args.e (λ h. omega arith)
+    ]
 
 pub returns : goal.returns
 returns c =
     let the-args = c.args in
-    by_switch the-args.head.now the-args.next.now the-args.sound.now the-args.base.now the-args.e (λ h. omega arith)
+    (omega arith, is_spur the-args.head.now the-args.next.now the-args.sound.now the-args.base.now the-args.e (omega arith) (omega arith) (λ h. omega arith) (omega arith))

@@ -1,12 +1,7 @@
 -- `sums_over` meets its contract. The loop's invariant: the three sums are those over the elements below e.
-use Prim.Native.Nat.{◌≤◌, ◌-◌}
 use Rattle.plan_sums.proofs.Totals.{SumsTo}
 use Rattle.plan_sums.proofs.sums_over.Given as goal
 
 abbrev pub invariant-loop-e : goal.invariant-loop-e
 invariant-loop-e l =
-    SumsTo l.load l.live l.restorable l.e l.fed l.dark l.lost × (l.e ≤ l.count)
-
-abbrev pub decreases-loop-e : goal.decreases-loop-e
-decreases-loop-e l =
-    64 - l.e
+    SumsTo l.load l.live l.restorable l.e l.fed l.dark l.lost

@@ -1,7 +1,5 @@
 -- `demand_of` meets its contract. The loop's invariant: sum is what the members below e ask.
 use mathlib.Core.Path.{◌≡◌, ap, ◌∙◌}
-use mathlib.Core.Logic.{⊎_elim}
-use Prim.Native.Nat.{◌-◌}
 use native.Mathlib.Omega.{arith}
 use Rattle.feeding.specs.Networks.{at}
 use borrow.Author.Tests.{eq-eqb, ne_eqb}
@@ -13,32 +11,7 @@ use Rattle.plan_supply.proofs.demand_of.Goals.{else-has-e-eq1, then-has-e-eq1}
 pub loop-e-init : goal.loop-e-init
 loop-e-init c =
     let the-args = c.args in
-    (omega arith, demand_none the-args.has.now the-args.load.now the-args.capacity.now)
-
-pub bounds-has-e : goal.bounds-has-e
-bounds-has-e c =
-    let pre· = c.requires in
-    omega (arith, pre·.has_long)
-
-pub offset_bounds-load-e : goal.offset_bounds-load-e
-offset_bounds-load-e c =
-    let pre· = c.requires in
-    omega (arith, pre·.fit)
-
-pub bounds-load-e : goal.bounds-load-e
-bounds-load-e c =
-    let pre· = c.requires in
-    omega (arith, pre·.load_long)
-
-pub offset_bounds-capacity-e : goal.offset_bounds-capacity-e
-offset_bounds-capacity-e c =
-    let pre· = c.requires in
-    omega (arith, pre·.fit)
-
-pub bounds-capacity-e : goal.bounds-capacity-e
-bounds-capacity-e c =
-    let pre· = c.requires in
-    omega (arith, pre·.capacity_long)
+    demand_none the-args.has.now the-args.load.now the-args.capacity.now
 
 pub overflow_add-sum : goal.overflow_add-sum
 overflow_add-sum c =
@@ -47,9 +20,9 @@ overflow_add-sum c =
     let pre· = c.requires in
     omega (
       arith,
-      c.ask-more.ensures,
+      c.ask-sum.ensures,
       ask_most (at the-args.load.now loop·.e) (at the-args.capacity.now loop·.e) (pre·.load_in_lem loop·.e (omega arith)),
-      loop·.invariant.1,
+      loop·.invariant,
       demand_most the-args.has.now the-args.load.now the-args.capacity.now loop·.e (λ i k. pre·.load_in_lem i (omega arith)),
       pre·.fit,
     )
@@ -57,14 +30,15 @@ overflow_add-sum c =
 pub loop-e-preserved : goal.loop-e-preserved
 loop-e-preserved c =
     let the-args = c.args in
-    let loop· = c.loop-e in (
-      omega arith,
-      (elim c.if-has-e-eq1.branch [ then-has-e-eq1 w ↦ demand_on the-args.has.now the-args.load.now the-args.capacity.now loop·.e loop·.sum w.ask-more.result _ loop·.invariant.1 (eq-eqb (at the-args.has.now loop·.e) 1 (omega arith)) w.ask-more.ensures w.sum-is | else-has-e-eq1 w ↦ demand_off the-args.has.now the-args.load.now the-args.capacity.now loop·.e loop·.sum _ loop·.invariant.1 (ne_eqb (at the-args.has.now loop·.e) 1 (omega arith)) w.sum-is ]),
-    )
+    let loop· = c.loop-e in
+    elim c.if-has-e-eq1.branch [
+      | then-has-e-eq1 w ↦ demand_on the-args.has.now the-args.load.now the-args.capacity.now loop·.e loop·.sum w.ask-sum.result _ loop·.invariant (eq-eqb (at the-args.has.now loop·.e) 1 (omega arith)) w.ask-sum.ensures w.sum-is
+      | else-has-e-eq1 w ↦ demand_off the-args.has.now the-args.load.now the-args.capacity.now loop·.e loop·.sum _ loop·.invariant (ne_eqb (at the-args.has.now loop·.e) 1 (omega arith)) w.sum-is
+    ]
 
 pub returns : goal.returns
 returns c =
     let loop· = c.loop-e in
     let the-args = c.args in
     let all : loop·.e ≡ the-args.elements = omega arith in
-    loop·.invariant.1 ∙ ap (demand_in the-args.has.now the-args.load.now the-args.capacity.now) all
+    loop·.invariant ∙ ap (demand_in the-args.has.now the-args.load.now the-args.capacity.now) all

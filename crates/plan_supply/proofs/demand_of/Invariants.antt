@@ -1,13 +1,8 @@
 -- `demand_of` meets its contract. The loop's invariant: sum is what the members below e ask.
 use mathlib.Core.Path.{◌≡◌}
-use Prim.Native.Nat.{◌≤◌, ◌-◌}
 use Rattle.plan_supply.specs.Supply.{demand_in}
 use Rattle.plan_supply.proofs.demand_of.Given as goal
 
 abbrev pub invariant-loop-e : goal.invariant-loop-e
 invariant-loop-e l =
-    (l.e ≤ l.elements) × (l.sum ≡ demand_in l.has l.load l.capacity l.e)
-
-abbrev pub decreases-loop-e : goal.decreases-loop-e
-decreases-loop-e l =
-    l.elements - l.e
+    l.sum ≡ demand_in l.has l.load l.capacity l.e

@@ -1,13 +1,8 @@
 -- `left_over` meets its contract. The loop's invariant: out has what is left of the capacities of the sources among the first s elements, at their labels.
 use mathlib.Core.Path.{◌≡◌}
-use Prim.Native.Nat.{◌≤◌, ◌-◌}
 use Rattle.plan_supply.specs.Supply.{spare_in}
 use Rattle.plan_supply.proofs.left_over.Given as goal
 
 abbrev pub invariant-loop-s : goal.invariant-loop-s
 invariant-loop-s l =
-    (l.s ≤ l.elements) × (l.out ≡ spare_in l.asked l.label l.sound l.capacity l.s)
-
-abbrev pub decreases-loop-s : goal.decreases-loop-s
-decreases-loop-s l =
-    l.elements - l.s
+    l.out ≡ spare_in l.asked l.label l.sound l.capacity l.s

@@ -1,6 +1,5 @@
 -- `switches_of` meets its contract. The loop's invariant: the arrays are the columns of the members below l.
 use mathlib.Core.Path.{◌≡◌}
-use Prim.Native.Nat.{◌≤◌, ◌-◌}
 use lib.ListN.{length}
 use lib.Dec.{eqb}
 use Rattle.feeding.specs.Below.{gate}
@@ -11,12 +10,9 @@ use Rattle.plan_switches.proofs.switches_of.Given as goal
 
 abbrev pub invariant-loop-l : goal.invariant-loop-l
 invariant-loop-l l =
-    (l.l ≤ l.net.links) × (l.count ≡ length (members l.operable l.l))
+    (l.count ≡ length (members l.operable l.l))
     × (l.link ≡ column (members l.operable l.l) (λ m. m))
     × (l.from ≡ column (members l.operable l.l) (at l.net.from))
     × (l.to ≡ column (members l.operable l.l) (at l.net.to))
     × (l.closed ≡ column (members l.operable l.l) (λ m. gate (eqb (at l.net.form m) 2) 1))
     × (l.price ≡ column (members l.operable l.l) (at l.net.cost))
-
-abbrev pub decreases-loop-l : goal.decreases-loop-l
-decreases-loop-l l = l.net.links - l.l

@@ -1,35 +1,32 @@
 -- `file_plan::reader::end_of_plan` reads the end record: a run of one record of which nothing is kept.
-use mathlib.Core.Path.{refl, ap, sym, ◌∙◌}
+use mathlib.Core.Path.{◌≡◌, refl, ap, sym, ◌∙◌}
 use native.Mathlib.Omega.{arith}
+use Rattle.std.proofs.Common.{rules}
+use Rattle.std.specs.Prelude.{Err}
+use Rattle.file_fields.specs.Views.{seen_in}
 use Rattle.file_network.specs.Runs.{always, as_is}
+use Rattle.file_network.specs.Inputs.{part_of}
 use Rattle.file_plan.specs.PlanFiles.{plan_end_on_by}
-use Rattle.file_plan.specs.Inputs.{plan_part}
 use Rattle.file_records.proofs.Due.{due_kept}
 use Rattle.file_network.proofs.Runs.{records_none}
 use Rattle.file_network.proofs.Outcomes.{run_refused, run_turn}
-use Rattle.file_fields.specs.Views.{links_seen}
 use Rattle.file_plan.proofs.reader.end_of_plan.Goals as goal
 
-pub returns-in-Refused : goal.returns-in-Refused
-unfolding plan_end_on_by links_seen
-returns-in-Refused c =
-    let the-args = c.args in
-    c.refused_plan.ensures ∙ ap plan_part (run_refused the-args.s.now (always (links_seen the-args.links)) as_is _ 1 the-args.at the-args.stage the-args.plan refl _
-    (omega arith) c.record_due-found.ensures _ c.in-Refused.is)
+pub returns-in_err-record : goal.returns-in_err-record
+unfolding plan_end_on_by
+returns-in_err-record c =
+    let a = c.args in
+    let same : c.from_residual.result ≡ Err (c.in_err-record.field-0.0) = search rules in
+    same ∙ ap part_of (run_refused a.s.now (always (seen_in a.seen)) as_is _ 1 a.at a.stage a.plan refl (omega arith) _ c.in_err-record.ensures)
 
 pub overflow_add-after : goal.overflow_add-after
-unfolding links_seen
 overflow_add-after c =
-    let the-args = c.args in
-    omega (
-      arith,
-      (due_kept the-args.s.now (links_seen the-args.links) the-args.at the-args.stage
-          (sym c.record_due-found.ensures ∙ c.in-Record.is)).framed.fits,
-    )
+    let a = c.args in
+    omega (arith, (due_kept a.s.now (seen_in a.seen) a.at a.stage (sym c.in_ok-record.ensures)).framed.fits)
 
-pub returns-in-Record : goal.returns-in-Record
-unfolding plan_end_on_by plan_part links_seen
-returns-in-Record c =
-    let the-args = c.args in
-    ap plan_part (sym (records_none the-args.s.now (always (links_seen the-args.links)) as_is _ _ the-args.plan) ∙ run_turn the-args.s.now (always (links_seen the-args.links)) as_is _ 1 the-args.at
-    the-args.stage the-args.plan refl _ (omega arith) c.record_due-found.ensures _ _ _ c.in-Record.is)
+pub returns : goal.returns
+unfolding plan_end_on_by
+returns c =
+    let a = c.args in
+    ap part_of (sym (records_none a.s.now (always (seen_in a.seen)) as_is _ _ a.plan) ∙ run_turn a.s.now (always (seen_in a.seen)) as_is _ 1 a.at
+    a.stage a.plan refl (omega arith) _ 0 c.in_ok-record.ensures (omega arith))
