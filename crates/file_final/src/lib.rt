@@ -54,7 +54,9 @@ fn plans_behind(s: &[u8], start: usize, net: Network) -> Result<FinalRead, Refus
     second_behind(s, net, start, part.at, part.value)
 }
 
-// One input: the network file first, then the first plan file, then the second.
+// One input: the network file first, then the first plan file, then the second. Never inlined, so that the stack that reading
+// takes is free again when what was read is judged.
+#[inline(never)]
 pub fn read_final(s: &[u8]) -> Result<FinalRead, Refusal>
     ensures { result ≡ final_read (final_input s.now) }
 {
@@ -111,7 +113,9 @@ fn plans_lent(first: &[u8], second: &[u8], start: usize, net: Network) -> Result
     second_lent(second, net, start, middle, plan)
 }
 
-// Files lent apart, each with rule 13 of its own: the network file first, then the first plan file, then the second.
+// Files lent apart, each with rule 13 of its own: the network file first, then the first plan file, then the second. Never
+// inlined either.
+#[inline(never)]
 pub fn read_files(network: &[u8], first: &[u8], second: &[u8]) -> Result<FinalRead, Refusal>
     ensures { result ≡ final_read (files_input network.now first.now second.now) }
 {

@@ -108,6 +108,7 @@ module _ (st : Start) (ok : Searchable st) {sw : Switches} (sw-is : sw ≡ switc
         → FoundPlan n (cost_of (net_of n)) (printed_form (net_of n) D) (record { cost = cost; plan = plan; closed = states })
     set_plan cost plan c p = record {
       cost = c ∙ sym (cost_printed (net_of n) D inside);
+      told = omega (arith, c, costs_below n w D);
       plan = p ∙ ap (plan_with empty_plan) form;
       closed = λ l k. in_states l k ∙ ap (λ (x : ℕ → Bool). x l) (sym (printed_run (net_of n) D inside));
     }

@@ -10,9 +10,10 @@ use Rattle.plan_problem.specs.Choosing.{Planning, unplanned, by}
 use Rattle.plan_form.specs.Printing.{plan_with}
 use Rattle.plan_found.specs.declared.Found.{Found}
 
--- the arrays are those of the plan q: its cost, its steps, the last configuration; for any cost of lists of steps
+-- the arrays are those of the plan q: its cost, which is below that of no plan, its steps, the last configuration; for any cost of lists of steps
 pub record FoundPlan (n : Network) (price : List Step → ℕ) (q : List Step) (f : Found) : Type 0 where
   pub cost : f.cost ≡ price q
+  pub told : f.cost < 18446744073709551615
   pub plan : f.plan ≡ plan_with empty_plan q
   pub closed : (l : ℕ) → l < n.links → is_in f.closed l ≡ run (net_of n).start_closed q l
 

@@ -1,7 +1,7 @@
 // An input read to its end and a reply written, with each failure told on standard error.
 #![tactic(auto)]
 
-ghost use Rattle.std.specs.Prelude.{◌+◌, ◌<◌, ◌^◌, ◌≡◌, IfSome, length, take};
+ghost use Rattle.std.specs.Prelude.{◌+◌, ◌<◌, ◌≤◌, ◌^◌, ◌≡◌, IfSome, length, take};
 ghost use Rattle.file_network.specs.Deciding.{decides};
 ghost use Rattle.std.specs.Io.KnownBytes.{Consumes};
 ghost use Rattle.streams.specs.Streams.{input_after, Held, Grown, Ended, Brings, Shows, IsPrefixLen};
@@ -130,13 +130,14 @@ pub fn reply<R: Read, W: Write, E: Write, F: Fn(&[u8], &mut [u8; 4096]) -> usize
     program: &[u8],
     answer: F,
 )
-    requires { F.IsAlwaysCallable answer }
+    requires callable { F.IsAlwaysCallable answer }
+    requires counted { (s : _) (out : _) (n : _) (left : _) → F.post answer s out n left → n ≤ 4096 }
 {
     let mut bytes = input_buffer();
     let Input::Whole(length) = read_input(from, errors, program, &mut bytes) else {
         return;
     };
     let mut out = [0u8; 4096];
-    let written = answer(&bytes[..length], &mut out).min(out.len());
+    let written = answer(&bytes[..length], &mut out);
     write_reply(to, errors, program, &out[..written]);
 }

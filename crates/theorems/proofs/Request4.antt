@@ -2,7 +2,7 @@
 -- `final_for` by the contracts of `final_text` and `final_of`; of files lent apart `files_text` and `files_for`.
 -- Assumes nothing.
 use mathlib.Core.Path.{◌≡◌, refl, ap, sym, subst, ◌∙◌}
-use mathlib.Core.List.{List, ◌++◌}
+use mathlib.Core.List.{List, [], ◌∷◌, ◌++◌}
 use mathlib.Core.Logic.{◌↔◌}
 use Prim.Native.Nat.{ℕ, ◌+◌, ◌<◌, ◌≤◌}
 use native.Mathlib.Omega.{arith}
@@ -10,6 +10,7 @@ use lib.ListN.{length, take, drop}
 use Rattle.network.specs.declared.Network.{Network}
 use Rattle.network.specs.declared.refusal.Rule.TheVariants.{ByteAfterEnd}
 use Rattle.network.specs.declared.refusal.Refusal.{Refusal}
+use Rattle.network.specs.Refusals.{rule_number}
 use Rattle.std.specs.Prelude.{Ok, Err}
 use Rattle.file_fields.specs.Fields.{word}
 use Rattle.file_network.specs.Runs.{Reading}
@@ -39,6 +40,7 @@ use Rattle.final_better.specs.declared.Better.TheVariants.{Neither}
 use Rattle.final_better.specs.Better.{BetterBy, StandsAt, better_part, better_steps, file_of, part_in}
 use Rattle.final_better.proofs.Marks.{better_only}
 use Rattle.final_judge.specs.Finals.{FirstRuleFinal, in_files, in_network, StatesFinal, FinalReply, FilesReply, marks_of, decided_read, decided_in_input, final_for, files_for, decided_lines}
+use Rattle.host_values.specs.Values.{final_values}
 use Rattle.final_judge.proofs.Returning.{final_is, files_is, final_refused_exactly, files_refused_exactly}
 use Rattle.theorems.proofs.Finals as Finals
 use Rattle.theorems.specs.Words.{mark_text, final_text, files_text}
@@ -149,6 +151,17 @@ refused_hands_nothing s = Finals.nothing_decided (final_for s)
 pub apart_refused_hands_nothing : (network first second : List ℕ) (f : Refusal) → files_for network first second ≡ Err f → (d : Decided)
     → ¬ (files_for network first second ≡ Ok d)
 apart_refused_hands_nothing network first second = Finals.nothing_decided (files_for network first second)
+
+-- and a host of the library is handed the rule and the place, and zeros where marks, the better file and its part would stand
+pub refused_values : (s : List ℕ) (f : Refusal) → final_for s ≡ Err f
+    → final_values (final_for s) ≡ rule_number f.rule ∷ f.place ∷ 0 ∷ 0 ∷ 0 ∷ 0 ∷ 0 ∷ 0 ∷ 0 ∷ []
+unfolding final_values
+refused_values s f e = ap final_values e
+
+pub apart_refused_values : (network first second : List ℕ) (f : Refusal) → files_for network first second ≡ Err f
+    → final_values (files_for network first second) ≡ rule_number f.rule ∷ f.place ∷ 0 ∷ 0 ∷ 0 ∷ 0 ∷ 0 ∷ 0 ∷ 0 ∷ []
+unfolding final_values
+apart_refused_values network first second f e = ap final_values e
 
 -- ---- "Rules 14 to 18 come after both;"
 
