@@ -36,7 +36,9 @@ fn marked_final(read: FinalRead, marks: BothMarks) -> Decided
     Decided { marks, part }
 }
 
-// By what was read: rules 14 to 18, then both marks.
+// By what was read: rules 14 to 18, then both marks. Never inlined, so that no stack of the judge's stands while the files are
+// read.
+#[inline(never)]
 fn decide(read: FinalRead) -> Result<Decided, Refusal>
     requires { ReadFormed read }
     ensures { result ≡ final_accepted read (answer_to read.net) }

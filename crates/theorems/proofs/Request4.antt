@@ -152,7 +152,7 @@ pub apart_refused_hands_nothing : (network first second : List ℕ) (f : Refusal
     → ¬ (files_for network first second ≡ Ok d)
 apart_refused_hands_nothing network first second = Finals.nothing_decided (files_for network first second)
 
--- and a host of the library is handed the rule and the place, and zeros where marks, the better file and its part would stand
+-- and of the nine values of a final a host is handed the rule, the place and seven zeros
 pub refused_values : (s : List ℕ) (f : Refusal) → final_for s ≡ Err f
     → final_values (final_for s) ≡ rule_number f.rule ∷ f.place ∷ 0 ∷ 0 ∷ 0 ∷ 0 ∷ 0 ∷ 0 ∷ 0 ∷ []
 unfolding final_values
