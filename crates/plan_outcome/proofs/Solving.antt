@@ -5,9 +5,9 @@ use mathlib.Core.List.{List}
 use Prim.Native.Nat.{ℕ, ◌<◌}
 use native.Mathlib.Omega.{arith}
 use lib.ListN.{length}
-use Rattle.std.specs.Prelude.{Option}
+use Rattle.std.specs.Prelude.{Option, Some}
 use Rattle.network.specs.declared.Network.{Network}
-use Rattle.feeding.specs.Networks.{Net, grid_of, net_of}
+use Rattle.feeding.specs.Networks.{Net, grid_of, net_of, is_in}
 use Rattle.feeding.specs.Parts.{Config, closed_in}
 use Rattle.feeding.specs.Plans.{Step, run}
 use Rattle.feeding.proofs.States.{live_same}
@@ -37,14 +37,23 @@ unfolding net_of grid_of
 start_sums st b = sums_same (net_of st.net) (closed_in st.closed) (net_of st.net).start_closed
     (set_at st.net b.formed st.net.links _ st.closed b.formed.links_fit (closed_of st _ b.made))
 
--- the theorem: the outcome of what was found is that of its plan
-pub given_found : (n : Network) (price : List Step → ℕ) (p : Planning) (r : Option Found) → FoundBy n price p r → outcome_given n r ≡ outcome_from n price p
+-- a plan of any cost: its cost, its steps and its states give its outcome
+pub given_by_plan : (n : Network) (price : List Step → ℕ) (q : List Step) (f : Found)
+    → f.cost ≡ price q
+    → f.plan ≡ plan_with empty_plan q
+    → ((l : ℕ) → l < n.links → is_in f.closed l ≡ run (net_of n).start_closed q l)
+    → outcome_given n (Some f) ≡ outcome_from n price (by q)
 unfolding outcome_from outcome_with outcome_given net_of grid_of
-given_found n price unplanned r e = ap (outcome_given n) e
-given_found n price (by q) r (f, (e, found)) = ap (outcome_given n) e ∙ rw (found.plan, found.cost, count, sums)
+given_by_plan n price q f cost plan closed = rw (plan, cost, count, sums) refl
   where
     count : (plan_with empty_plan q).steps ≡ length q
     count = omega (arith, with_count empty_plan q, empty_steps)
 
     sums : sums_after (net_of n) (closed_in f.closed) ≡ sums_after (net_of n) (run (net_of n).start_closed q)
-    sums = sums_same (net_of n) (closed_in f.closed) (run (net_of n).start_closed q) found.closed
+    sums = sums_same (net_of n) (closed_in f.closed) (run (net_of n).start_closed q) closed
+
+-- the theorem: the outcome of what was found is that of its plan
+pub given_found : (n : Network) (price : List Step → ℕ) (p : Planning) (r : Option Found) → FoundBy n price p r → outcome_given n r ≡ outcome_from n price p
+unfolding outcome_from outcome_given
+given_found n price unplanned r e = ap (outcome_given n) e
+given_found n price (by q) r (f, (e, found)) = ap (outcome_given n) e ∙ given_by_plan n price q f found.cost found.plan found.closed
